@@ -1,0 +1,4 @@
+-- Laws that the crates above cite too, and the theorems about the machines.
+-- Assumes nothing.
+pub mod BitLaws
+pub mod ListLaws
