@@ -1,0 +1,3 @@
+-- What the functions on analogue channels promise.
+-- Assumes nothing.
+pub mod Promises

@@ -1,0 +1,53 @@
+-- What the functions on analogue channels promise. A channel past the end of an array is read as one with every field 0.
+-- Assumes nothing.
+use mathlib.Core.Path.{_≡_}
+use mathlib.Core.Bool.{Bool, false, _&&_}
+use mathlib.Core.List.{List}
+use Prim.Native.Nat.{ℕ, _<_}
+use lib.ListN.{getD}
+use lib.IntN.{ℤ, pos}
+use Rattle.profile.specs.declared.AnalogueInput.{AnalogueInput}
+use Rattle.profile.specs.declared.AnalogueOutput.{AnalogueOutput}
+use Rattle.profile.specs.Bits.{gather}
+use Rattle.profile.specs.Bytes.{listFrom}
+use Rattle.profile.specs.Analogue.{meets, sampleChannel, clearSource, moveAnalogueOutput}
+
+abbrev pub blankInput : AnalogueInput
+blankInput = record { selection = 0; upper = pos 0; lower = pos 0; delta = 0; negative = 0; positive = 0; last = pos 0; reference = pos 0; source = false }
+
+abbrev pub blankOutput : AnalogueOutput
+blankOutput = record { mode = false; error = pos 0; kept = pos 0; driven = pos 0 }
+
+-- channel n of an array
+abbrev pub inputOf : List AnalogueInput → ℕ → AnalogueInput
+inputOf channels n = getD channels n blankInput
+
+abbrev pub outputOf : List AnalogueOutput → ℕ → AnalogueOutput
+outputOf channels n = getD channels n blankOutput
+
+-- channel n meets a selected condition at its own number, and events are on: the node is operational and 6423 is 1
+unfoldable pub met : Bool → List ℤ → List AnalogueInput → ℕ → Bool
+met on xs channels n = on && meets (getD xs n (pos 0)) (inputOf channels n)
+
+-- one channel was sampled at x
+pub record Sampled (on : Bool) (x : ℤ) (old : AnalogueInput) (event : Bool) (new : AnalogueInput) : Type 0 where
+  pub event-is : event ≡ on && meets x old
+  pub channel-is : new ≡ sampleChannel event x old
+
+-- sixteen channels were sampled
+pub record AllSampled (on : Bool) (xs : List ℤ) (old : List AnalogueInput) (events : ℕ) (new : List AnalogueInput) : Type 0 where
+  pub events-are : events ≡ gather 16 (met on xs old)
+  pub channels : (n : ℕ) → n < 16 → inputOf new n ≡ sampleChannel (met on xs old n) (getD xs n (pos 0)) (inputOf old n)
+
+-- the source bits of sixteen channels, and the channels with them cleared
+pub record SourcesTaken (old : List AnalogueInput) (sources : ℕ) (new : List AnalogueInput) : Type 0 where
+  pub sources-are : sources ≡ gather 16 (λ n. inputOf old n .source)
+  pub channels : (n : ℕ) → n < 16 → inputOf new n ≡ clearSource (inputOf old n)
+
+-- fault was `before` and is `after`, at eight outputs
+pub record AllMoved (before after : Bool) (old new : List AnalogueOutput) : Type 0 where
+  pub channels : (n : ℕ) → n < 8 → outputOf new n ≡ moveAnalogueOutput before after (outputOf old n)
+
+-- the numbers are what eight outputs drive
+pub record Driven (channels : List AnalogueOutput) (xs : List ℤ) : Type 0 where
+  pub numbers : xs ≡ listFrom 8 0 (λ n. outputOf channels n .driven)
