@@ -1,7 +1,7 @@
 -- Document 01, "Where each refusal is checked".
 -- Assumes nothing.
 use mathlib.Core.Bool.{Bool, true, false, not, cond, _||_, _&&_}
-use mathlib.Core.List.{List, [], _∷_}
+use mathlib.Core.List.{List, [], _∷_, _++_}
 use Prim.Native.Nat.{ℕ}
 use lib.Dec.{eqb, ltb}
 use lib.ListN.{length}
@@ -54,23 +54,30 @@ absence (Output index n) = 0
 absence Sources = 0
 absence (Device index) = 0
 
-unfoldable pub readRefusal : Conditions → Entry → ℕ
-readRefusal has e =
-    first (
+abbrev pub entryChecks : Conditions → Entry → List Check
+entryChecks has e =
     (has .stopped ⇒ 0x08000022) ∷
-    (isAbsent e ⇒ absence e) ∷ [])
+    (isAbsent e ⇒ absence e) ∷ []
+
+-- access and size, by the length of the data
+abbrev pub accessChecks : Conditions → Entry → ℕ → List Check
+accessChecks has e size =
+    entryChecks has e ++
+    (readOnly e ⇒ 0x06010002) ∷
+    (ltb (sizeOf e) size ⇒ 0x06070012) ∷
+    (ltb size (sizeOf e) ⇒ 0x06070013) ∷ []
+
+abbrev pub valueChecks : Entry → ℕ → List Check
+valueChecks e v =
+    (notAllowed e v ⇒ 0x06090030) ∷
+    (aboveRange e v ⇒ 0x06090031) ∷
+    (belowRange e v ⇒ 0x06090032) ∷ []
+
+unfoldable pub readRefusal : Conditions → Entry → ℕ
+readRefusal has e = first (entryChecks has e)
 
 unfoldable pub writeRefusal : Conditions → Entry → List ℕ → ℕ
-writeRefusal has e payload =
-    first (
-    (has .stopped ⇒ 0x08000022) ∷
-    (isAbsent e ⇒ absence e) ∷
-    (readOnly e ⇒ 0x06010002) ∷
-    (ltb (sizeOf e) (length payload) ⇒ 0x06070012) ∷
-    (ltb (length payload) (sizeOf e) ⇒ 0x06070013) ∷
-    (notAllowed e (littleEndian payload) ⇒ 0x06090030) ∷
-    (aboveRange e (littleEndian payload) ⇒ 0x06090031) ∷
-    (belowRange e (littleEndian payload) ⇒ 0x06090032) ∷ [])
+writeRefusal has e payload = first (accessChecks has e (length payload) ++ valueChecks e (littleEndian payload))
 
 -- "create: 0 or above 127"
 unfoldable pub createRefusal : ℕ → ℕ
