@@ -2,3 +2,8 @@
 -- Assumes nothing.
 pub mod BitLaws
 pub mod ListLaws
+pub mod EntryRanges
+pub mod ReplyLaws
+pub mod ListTheorem
+pub mod NodesAgree
+pub mod BenchTheorem
