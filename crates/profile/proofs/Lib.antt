@@ -6,4 +6,6 @@ pub mod EntryRanges
 pub mod ReplyLaws
 pub mod ListTheorem
 pub mod NodesAgree
+pub mod StepLaws
+pub mod OutputsFollow
 pub mod BenchTheorem
