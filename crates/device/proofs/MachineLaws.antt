@@ -1,0 +1,151 @@
+-- From the promises of the lines and the channels to every machine of the device.
+-- Assumes nothing.
+use mathlib.Core.Path.{_≡_, refl, ap, ap₂, _∙_, sym}
+use mathlib.Core.Bool.{Bool, true, false, not, cond, _||_, _&&_, or-false}
+use mathlib.Core.List.{List}
+use Prim.Native.Nat.{ℕ, zero, suc, _<_}
+use native.Mathlib.Omega.{arith}
+use lib.Dec.{eqb, ltb, leb}
+use lib.ListN.{length, getD, set}
+use lib.Seq.{getD-set-same, getD-set-other}
+use lib.IntN.{ℤ, pos}
+use borrow.Author.Tests.{eqb-true, eqb-false}
+use Rattle.profile.specs.declared.Node.{Node}
+use Rattle.profile.specs.declared.Entry.{Entry}
+use Rattle.profile.specs.declared.Entry.the-variants.{Absent, Constant, Window, Input, Output, Sources, Device}
+use Rattle.profile.specs.declared.AnalogueInput.{AnalogueInput}
+use Rattle.profile.specs.declared.AnalogueOutput.{AnalogueOutput}
+use Rattle.profile.specs.Bits.{bitAt}
+use Rattle.profile.specs.Nodes.{fault}
+use Rattle.profile.specs.Entries.{inside, bitOf}
+use Rattle.profile.specs.DigitalInput.{InputLine, writeInputLine}
+use Rattle.profile.specs.DigitalOutput.{OutputLine, writeOutputLine}
+use Rattle.profile.specs.Analogue.{writeAnalogueInput, writeAnalogueOutput}
+use Rattle.profile.specs.Machines.{Kind, nodeAlone, inputLine, outputLine, analogueInput, analogueOutput, count, Own, Machine, readsSources, writeNode, clearOwn}
+use Rattle.profile.specs.Replies.{Machines}
+use Rattle.profile.specs.Lists.{Same}
+use Rattle.lines.specs.View.{inputAt, outputAt}
+use Rattle.lines.specs.Promises as line
+use Rattle.channels.specs.Promises as channel
+use Rattle.device.specs.declared.Device as the
+use Rattle.device.specs.View.{ownOf, machinesOf}
+use Rattle.device.specs.Promises.{moved, wrote, hasRead}
+
+-- two families are the same where they are so at each kind
+pub by-kind : (a b : Machines) → a nodeAlone 0 ≡ b nodeAlone 0
+    → ((i : ℕ) → i < 128 → a inputLine i ≡ b inputLine i) → ((i : ℕ) → i < 128 → a outputLine i ≡ b outputLine i)
+    → ((i : ℕ) → i < 16 → a analogueInput i ≡ b analogueInput i) → ((i : ℕ) → i < 8 → a analogueOutput i ≡ b analogueOutput i) → Same a b
+by-kind a b n p q r s = record { at = at }
+  where
+    at : (k : Kind) (i : ℕ) → i < count k → a k i ≡ b k i
+    at nodeAlone zero h = n
+    at nodeAlone (suc i) h = absurd (omega arith)
+    at inputLine i h = p i h
+    at outputLine i h = q i h
+    at analogueInput i h = r i h
+    at analogueOutput i h = s i h
+
+-- a machine from its node and its own part
+pub made : {k : Kind} {n m : Node} {o p : Own k} → n ≡ m → o ≡ p → _≡_ {A = Machine k} (record { node = n; own = o }) (record { node = m; own = p })
+made e f = λ t. record { node = e t; own = f t }
+
+-- lines and channels stayed
+pub owns-same : (d r : the.Device) → r .lines .words ≡ d .lines .words → r .inputs ≡ d .inputs → r .outputs ≡ d .outputs
+    → (k : Kind) (i : ℕ) → ownOf r k i ≡ ownOf d k i
+owns-same d r ls is os nodeAlone i = refl
+owns-same d r ls is os inputLine i = ap (λ (ws : List ℕ). inputAt ws i) ls
+owns-same d r ls is os outputLine i = ap (λ (ws : List ℕ). outputAt ws i) ls
+owns-same d r ls is os analogueInput i = ap (λ (xs : List AnalogueInput). channel.inputOf xs i) is
+owns-same d r ls is os analogueOutput i = ap (λ (xs : List AnalogueOutput). channel.outputOf xs i) os
+
+-- the node changed, and with it fault
+pub node-moved : (d r : the.Device) (n : Node) → r .node ≡ n → line.Moved (fault (d .node)) (fault n) (d .lines .words) (r .lines .words)
+    → r .inputs ≡ d .inputs → channel.AllMoved (fault (d .node)) (fault n) (d .outputs) (r .outputs) → Same (machinesOf r) (moved n d)
+node-moved d r n e l is os =
+    by-kind (machinesOf r) (moved n d) (made e refl)
+    (λ i h. made e (l .inputs i h)) (λ i h. made e (l .outputs i h))
+    (λ i h. made e (ap (λ (xs : List AnalogueInput). channel.inputOf xs i) is)) (λ i h. made e (os .channels i h))
+
+-- ---- writes
+
+choice : {k : Kind} (b : Bool) (n : Node) (o p : Own k) → _≡_ {A = Machine k} (record { node = n; own = cond b o p }) (cond b (record { node = n; own = o }) (record { node = n; own = p }))
+choice true n o p = refl
+choice false n o p = refl
+
+module _ (d r : the.Device) (node : r .node ≡ d .node) where
+  pub window-wrote : (row w s v : ℕ) → line.Written (fault (d .node)) (d .lines .words) row w s v (r .lines .words)
+      → r .inputs ≡ d .inputs → r .outputs ≡ d .outputs → Same (machinesOf r) (wrote (Window row w s) v d)
+  window-wrote row w s v l is os =
+      by-kind (machinesOf r) (wrote (Window row w s) v d) (made node refl)
+      (λ i h. made node (l .inputs i h) ∙ choice (ltb row 6 && inside w s i) (d .node) (writeInputLine row (bitAt v (bitOf w s i)) (inputAt (d .lines .words) i)) (inputAt (d .lines .words) i))
+      (λ i h. made node (l .outputs i h) ∙ choice (leb 6 row && inside w s i) (d .node) (writeOutputLine (fault (d .node)) row (bitAt v (bitOf w s i)) (outputAt (d .lines .words) i)) (outputAt (d .lines .words) i))
+      (λ i h. made node (ap (λ (xs : List AnalogueInput). channel.inputOf xs i) is))
+      (λ i h. made node (ap (λ (xs : List AnalogueOutput). channel.outputOf xs i) os))
+
+-- an element set, read at any place
+module _ {A : Type 0} (xs : List A) (n : ℕ) (x blank : A) (inside : n < length xs) where
+  set-by : (i : ℕ) (t : Bool) → eqb i n ≡ t → getD (set xs n x) i blank ≡ cond t x (getD xs i blank)
+  set-by i true e = rw (eqb-true i n e) (getD-set-same xs n x blank inside)
+  set-by i false e = getD-set-other xs n i x blank (eqb-false i n e)
+
+  pub set-at : (i : ℕ) → getD (set xs n x) i blank ≡ cond (eqb i n) x (getD xs i blank)
+  set-at i = set-by i (eqb i n) refl
+
+named : {A : Type 0} (f : A → A) (xs : List A) (blank : A) (i n : ℕ) (t : Bool) → eqb i n ≡ t
+    → cond t (f (getD xs n blank)) (getD xs i blank) ≡ cond t (f (getD xs i blank)) (getD xs i blank)
+named f xs blank i n true e = ap (λ (j : ℕ). f (getD xs j blank)) (sym (eqb-true i n e))
+named f xs blank i n false e = refl
+
+module _ (d r : the.Device) (node : r .node ≡ d .node) (lines : r .lines .words ≡ d .lines .words) where
+  pub input-wrote : (index n v : ℕ) → n < length (d .inputs) → r .inputs ≡ set (d .inputs) n (writeAnalogueInput index v (channel.inputOf (d .inputs) n))
+      → r .outputs ≡ d .outputs → Same (machinesOf r) (wrote (Input index n) v d)
+  input-wrote index n v h is os =
+      by-kind (machinesOf r) (wrote (Input index n) v d) (made node refl)
+      (λ i l. made node (ap (λ (ws : List ℕ). inputAt ws i) lines)) (λ i l. made node (ap (λ (ws : List ℕ). outputAt ws i) lines))
+      (λ i l. made node (ap (λ (xs : List AnalogueInput). channel.inputOf xs i) is
+          ∙ set-at (d .inputs) n (writeAnalogueInput index v (channel.inputOf (d .inputs) n)) channel.blankInput h i
+          ∙ named (writeAnalogueInput index v) (d .inputs) channel.blankInput i n (eqb i n) refl)
+        ∙ choice (eqb i n) (d .node) (writeAnalogueInput index v (channel.inputOf (d .inputs) i)) (channel.inputOf (d .inputs) i))
+      (λ i l. made node (ap (λ (xs : List AnalogueOutput). channel.outputOf xs i) os))
+
+  pub output-wrote : (index n v : ℕ) → n < length (d .outputs)
+      → r .outputs ≡ set (d .outputs) n (writeAnalogueOutput (fault (d .node)) index v (channel.outputOf (d .outputs) n))
+      → r .inputs ≡ d .inputs → Same (machinesOf r) (wrote (Output index n) v d)
+  output-wrote index n v h os is =
+      by-kind (machinesOf r) (wrote (Output index n) v d) (made node refl)
+      (λ i l. made node (ap (λ (ws : List ℕ). inputAt ws i) lines)) (λ i l. made node (ap (λ (ws : List ℕ). outputAt ws i) lines))
+      (λ i l. made node (ap (λ (xs : List AnalogueInput). channel.inputOf xs i) is))
+      (λ i l. made node (ap (λ (xs : List AnalogueOutput). channel.outputOf xs i) os
+          ∙ set-at (d .outputs) n (writeAnalogueOutput (fault (d .node)) index v (channel.outputOf (d .outputs) n)) channel.blankOutput h i
+          ∙ named (writeAnalogueOutput (fault (d .node)) index v) (d .outputs) channel.blankOutput i n (eqb i n) refl)
+        ∙ choice (eqb i n) (d .node) (writeAnalogueOutput (fault (d .node)) index v (channel.outputOf (d .outputs) i)) (channel.outputOf (d .outputs) i))
+
+setting-by : (index v : ℕ) (n : Node) (k : Kind) (o : Own k) (t : Bool) → eqb index 0x1001 ≡ t
+    → _≡_ {A = Machine k} (record { node = writeNode (Device index) v n; own = o })
+      (cond (not t) (record { node = writeNode (Device index) v n; own = o }) (record { node = n; own = o }))
+setting-by index v n k o true e = made (ap (λ (x : ℕ). writeNode (Device x) v n) (eqb-true index 0x1001 e)) refl
+setting-by index v n k o false e = refl
+
+-- 1029:1, 6005 or 6423
+pub setting-wrote : (d r : the.Device) (index v : ℕ) → r .node ≡ writeNode (Device index) v (d .node)
+    → r .lines .words ≡ d .lines .words → r .inputs ≡ d .inputs → r .outputs ≡ d .outputs → Same (machinesOf r) (wrote (Device index) v d)
+setting-wrote d r index v n ls is os =
+    record {
+      at = λ k i h.
+          made n (owns-same d r ls is os k i)
+          ∙ setting-by index v (d .node) k (ownOf d k i) (eqb index 0x1001) refl
+          ∙ ap (λ (b : Bool). cond b (record { node = writeNode (Device index) v (d .node); own = ownOf d k i }) (machinesOf d k i)) (sym (or-false (not (eqb index 0x1001)))) }
+
+-- ---- reads
+
+-- any entry but 6422:1 leaves every machine
+pub read-same : (d : the.Device) (e : Entry) → readsSources e ≡ false → Same (machinesOf d) (hasRead e d)
+read-same d e h = record { at = λ k i l. made refl (ap (λ (b : Bool). cond b (clearOwn k (ownOf d k i)) (ownOf d k i)) (sym h)) }
+
+-- 6422:1 clears the source bits
+pub sources-read : (d r : the.Device) (sources : ℕ) → r .node ≡ d .node → r .lines .words ≡ d .lines .words → channel.SourcesTaken (d .inputs) sources (r .inputs)
+    → r .outputs ≡ d .outputs → Same (machinesOf r) (hasRead Sources d)
+sources-read d r sources n ls is os =
+    by-kind (machinesOf r) (hasRead Sources d) (made n refl)
+    (λ i l. made n (ap (λ (ws : List ℕ). inputAt ws i) ls)) (λ i l. made n (ap (λ (ws : List ℕ). outputAt ws i) ls))
+    (λ i l. made n (is .channels i l)) (λ i l. made n (ap (λ (xs : List AnalogueOutput). channel.outputOf xs i) os))

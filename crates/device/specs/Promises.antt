@@ -1,0 +1,35 @@
+-- What create promises, and what the device's own functions do between the calls.
+-- Assumes nothing.
+use mathlib.Core.Path.{_≡_}
+use mathlib.Core.Bool.{Bool, cond, _||_}
+use Prim.Native.Nat.{ℕ, _<_}
+use Rattle.profile.specs.declared.Node.{Node}
+use Rattle.profile.specs.declared.Entry.{Entry}
+use Rattle.profile.specs.Nodes.{fault}
+use Rattle.profile.specs.Refusals.{createRefusal, createdNumber}
+use Rattle.profile.specs.Machines.{Kind, count, Machine, entryNames, writesSetting, readsSources, writeNode, writeOwn, clearOwn, moveOwn}
+use Rattle.profile.specs.Replies.{Machines, freshMachines}
+use Rattle.profile.specs.Lists.{Same}
+use Rattle.device.specs.declared.Device.{Device}
+use Rattle.device.specs.declared.Created.{Created}
+use Rattle.device.specs.View.{ownOf, machinesOf}
+
+-- the promise of create: the number, and a fresh device with the node number, or with 127
+pub record CreatedAs (number : ℕ) (r : Created) : Type 0 where
+  pub numbered : r .number ≡ createRefusal number
+  pub machines : Same (machinesOf (r .device)) (freshMachines (createdNumber number))
+
+-- every machine of the device has the node n, and its outputs have moved as fault began, lasted or ended
+abbrev pub moved : Node → Device → Machines
+moved n d k i = record { node = n; own = moveOwn (fault (d .node)) (fault n) k (ownOf d k i) }
+
+-- the number v was written to an entry
+abbrev pub wrote : Entry → ℕ → Device → Machines
+wrote e v d k i =
+    cond (writesSetting e || entryNames e k i)
+    (record { node = writeNode e v (d .node); own = writeOwn e v k i (d .node) (ownOf d k i) })
+    (machinesOf d k i)
+
+-- an entry was read
+abbrev pub hasRead : Entry → Device → Machines
+hasRead e d k i = record { node = d .node; own = cond (readsSources e) (clearOwn k (ownOf d k i)) (ownOf d k i) }
