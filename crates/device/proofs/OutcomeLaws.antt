@@ -1,0 +1,209 @@
+-- From what the code of a call knows at each return to the promise of the call.
+-- Assumes nothing.
+use mathlib.Core.Path.{_≡_, refl, ap, ap₂, _∙_, sym}
+use mathlib.Core.Bool.{Bool, true, false, not, cond, _||_, _&&_}
+use mathlib.Core.List.{List, [], _∷_, _++_}
+use Prim.Native.Nat.{ℕ, _<_, _≤_}
+use native.Mathlib.Omega.{arith}
+use lib.Dec.{eqb}
+use lib.ListN.{length, getD}
+use lib.IntN.{ℤ, pos}
+use borrow.Author.Tests.{eq-eqb, ne-eqb}
+use Rattle.profile.specs.declared.Node.{Node}
+use Rattle.profile.specs.declared.Cause.{Cause}
+use Rattle.profile.specs.declared.Entry.{Entry}
+use Rattle.profile.specs.Bits.{gather}
+use Rattle.profile.specs.Bytes.{littleEndian, listFrom, bytes, lineBit}
+use Rattle.profile.specs.declared.AnalogueOutput.{AnalogueOutput}
+use Rattle.profile.specs.DigitalInput.{sampleLine, edge, lineEvent}
+use Rattle.profile.specs.DigitalOutput.{moveOutputLine}
+use Rattle.profile.specs.Analogue.{moveAnalogueOutput, channelEvent}
+use Rattle.lines.specs.declared.Row.{Row}
+use Rattle.lines.specs.View.{rowAt, inputAt}
+use Rattle.lines.specs.Promises as line
+use Rattle.channels.specs.Promises as channel
+use Rattle.channels.specs.Promises.{met}
+use Rattle.profile.specs.Nodes.{operational, fault, raiseNode, clearNode, addressed, obeyNode, commandNode}
+use Rattle.profile.specs.Entries.{entryOf, sizeOf}
+use Rattle.profile.specs.Calls.{Call, Reply, read, write, sample, command, raise, clear, drive}
+use Rattle.profile.specs.Refusals.{Conditions, conditions, first, entryChecks, accessChecks, valueChecks, readRefusal, writeRefusal, refusal, accepted}
+use Rattle.profile.specs.Machines.{Kind, nodeAlone, inputLine, outputLine, analogueInput, analogueOutput, Machine, count, Own, fresh, step, moveOwn, commandOwn}
+use Rattle.profile.specs.Replies.{Machines, freshMachines, readValue, plain, readReply, sampleReply, driveReply, lineEvents, channelEvents, answer, refuse, reply}
+use Rattle.profile.specs.Lists.{Same, stepAll, Outcome}
+use Rattle.profile.proofs.ListLaws.{bytes-cong}
+use Rattle.profile.proofs.EntryRanges.{in-range}
+use Rattle.profile.proofs.RefusalLaws.{none-holds, first-skip, first-stop, access-sound}
+use Rattle.profile.proofs.StepLaws.{refused-step, write-step, read-step, sample-step, command-step, raise-step, clear-step, drive-step}
+use Rattle.profile.proofs.ListTheorem.{same-trans}
+use Rattle.device.specs.declared.Device.{Device}
+use Rattle.device.specs.View.{ownOf, machinesOf}
+use Rattle.device.specs.Promises.{moved, wrote, hasRead}
+use Rattle.device.proofs.MachineLaws.{by-kind, made}
+
+-- ---- refused and accepted calls
+
+-- a refused call hands back the device, and the reply of a refusal
+pub refused-outcome : (d : Device) (c : Call) (n : ℕ) → n ≡ refusal (conditions (d .node)) c → (n ≡ 0 → ⊥) → Outcome (machinesOf d) c (refuse n c) (machinesOf d)
+unfolding reply
+refused-outcome d c n e ne =
+    let f : accepted (d .node) c ≡ false = ap (λ (x : ℕ). eqb x 0) (sym e) ∙ ne-eqb n 0 ne in
+    record {
+      machines = record { at = λ k i h. sym (refused-step k i c (machinesOf d k i) f) };
+      replied = ap (λ (x : ℕ). refuse x c) e ∙ ap (λ (b : Bool). cond b (answer (machinesOf d) c) (refuse (refusal (conditions (d .node)) c) c)) (sym f) }
+
+-- an accepted call: every machine stepped, and the reply of the machines
+pub accepted-outcome : (d r : Device) (c : Call) (a : Reply) → refusal (conditions (d .node)) c ≡ 0
+    → (accepted (d .node) c ≡ true → Same (machinesOf r) (stepAll c (machinesOf d))) → a ≡ answer (machinesOf d) c
+    → Outcome (machinesOf d) c a (machinesOf r)
+unfolding reply
+accepted-outcome d r c a e same q =
+    let t : accepted (d .node) c ≡ true = eq-eqb (refusal (conditions (d .node)) c) 0 e in
+    record {
+      machines = same t;
+      replied = q ∙ ap (λ (b : Bool). cond b (answer (machinesOf d) c) (refuse (refusal (conditions (d .node)) c) c)) (sym t) }
+
+-- ---- raise and clear
+
+pub raise-outcome : (d r : Device) (cause : Cause) → Same (machinesOf r) (moved (raiseNode cause (d .node)) d) → Outcome (machinesOf d) (raise cause) (plain 0) (machinesOf r)
+unfolding refusal answer
+raise-outcome d r cause s =
+    accepted-outcome d r (raise cause) (plain 0) refl
+    (λ t. record { at = λ k i h. s .at k i h ∙ sym (raise-step k i cause (machinesOf d k i)) }) refl
+
+pub clear-outcome : (d r : Device) (cause : Cause) → Same (machinesOf r) (moved (clearNode cause (d .node)) d) → Outcome (machinesOf d) (clear cause) (plain 0) (machinesOf r)
+unfolding refusal answer
+clear-outcome d r cause s =
+    accepted-outcome d r (clear cause) (plain 0) refl
+    (λ t. record { at = λ k i h. s .at k i h ∙ sym (clear-step k i cause (machinesOf d k i)) }) refl
+
+-- ---- reads and writes
+
+pub read-outcome : (d r : Device) (index sub value size : ℕ) → first (entryChecks (conditions (d .node)) (entryOf index sub)) ≡ 0
+    → value ≡ readValue (machinesOf d) (entryOf index sub) → size ≡ sizeOf (entryOf index sub) → Same (machinesOf r) (hasRead (entryOf index sub) d)
+    → Outcome (machinesOf d) (read index sub) (readReply value size) (machinesOf r)
+unfolding refusal readRefusal answer
+read-outcome d r index sub value size e v z s =
+    accepted-outcome d r (read index sub) (readReply value size) e
+    (λ t. record { at = λ k i h. s .at k i h ∙ sym (read-step k i index sub (entryOf index sub) (machinesOf d k i) refl t) })
+    (ap₂ readReply v z)
+
+pub write-outcome : (d r : Device) (index sub : ℕ) (payload : List ℕ) → first (accessChecks (conditions (d .node)) (entryOf index sub) (length payload)) ≡ 0
+    → first (valueChecks (entryOf index sub) (littleEndian payload)) ≡ 0 → Same (machinesOf r) (wrote (entryOf index sub) (littleEndian payload) d)
+    → Outcome (machinesOf d) (write index sub payload) (plain 0) (machinesOf r)
+unfolding refusal writeRefusal answer
+write-outcome d r index sub payload a v s =
+    accepted-outcome d r (write index sub payload) (plain 0)
+    (first-skip (accessChecks (conditions (d .node)) (entryOf index sub) (length payload)) (valueChecks (entryOf index sub) (littleEndian payload))
+      (none-holds (accessChecks (conditions (d .node)) (entryOf index sub) (length payload)) (access-sound (conditions (d .node)) (entryOf index sub) (length payload) (in-range index sub)) a) ∙ v)
+    (λ t. record { at = λ k i h. s .at k i h ∙ sym (write-step k i index sub payload (entryOf index sub) (machinesOf d k i) refl t) })
+    refl
+
+-- a write refused by its access or size, and one refused by its value
+positive : (n : ℕ) → (n ≡ 0 → ⊥) → 1 ≤ n
+positive n ne = omega arith
+
+pub access-refused : (d : Device) (index sub : ℕ) (payload : List ℕ) (n : ℕ) → n ≡ first (accessChecks (conditions (d .node)) (entryOf index sub) (length payload))
+    → (n ≡ 0 → ⊥) → Outcome (machinesOf d) (write index sub payload) (plain n) (machinesOf d)
+unfolding refusal writeRefusal refuse
+access-refused d index sub payload n e ne =
+    refused-outcome d (write index sub payload) n
+    (e ∙ sym (first-stop (accessChecks (conditions (d .node)) (entryOf index sub) (length payload)) (valueChecks (entryOf index sub) (littleEndian payload))
+      (rw e at (positive n ne)))) ne
+
+pub value-refused : (d : Device) (index sub : ℕ) (payload : List ℕ) (n : ℕ) → first (accessChecks (conditions (d .node)) (entryOf index sub) (length payload)) ≡ 0
+    → n ≡ first (valueChecks (entryOf index sub) (littleEndian payload)) → (n ≡ 0 → ⊥) → Outcome (machinesOf d) (write index sub payload) (plain n) (machinesOf d)
+unfolding refusal writeRefusal refuse
+value-refused d index sub payload n a e ne =
+    refused-outcome d (write index sub payload) n
+    (e ∙ sym (first-skip (accessChecks (conditions (d .node)) (entryOf index sub) (length payload)) (valueChecks (entryOf index sub) (littleEndian payload))
+      (none-holds (accessChecks (conditions (d .node)) (entryOf index sub) (length payload)) (access-sound (conditions (d .node)) (entryOf index sub) (length payload) (in-range index sub)) a))) ne
+
+-- ---- commands
+
+-- fault that lasts, or its absence that lasts, moves no output
+move-still : (b : Bool) (k : Kind) (o : Own k) → moveOwn b b k o ≡ o
+unfolding moveOutputLine moveAnalogueOutput
+move-still b nodeAlone o = refl
+move-still b inputLine o = refl
+move-still true outputLine o = refl
+move-still false outputLine o = refl
+move-still b analogueInput o = refl
+move-still true analogueOutput o = refl
+move-still false analogueOutput o = refl
+
+module _ (d r : Device) (code to : ℕ) (taken : refusal (conditions (d .node)) (command code to) ≡ 0) where
+  commanded : ((k : Kind) (i : ℕ) → i < count k
+      → machinesOf r k i ≡ record { node = commandNode code to (d .node); own = commandOwn code to k (d .node) (ownOf d k i) })
+      → Outcome (machinesOf d) (command code to) (plain 0) (machinesOf r)
+  unfolding answer
+  commanded at =
+      accepted-outcome d r (command code to) (plain 0) taken
+      (λ t. record { at = λ k i h. at k i h ∙ sym (command-step k i code to (machinesOf d k i) t) }) refl
+
+  -- for this node, and no reset
+  pub obeyed-outcome : addressed to (d .node) ≡ true → (code ≡ 129 → ⊥) → Same (machinesOf r) (moved (obeyNode code (d .node)) d)
+      → Outcome (machinesOf d) (command code to) (plain 0) (machinesOf r)
+  obeyed-outcome h ne s = commanded (λ k i l. s .at k i l ∙ rw (h, ne-eqb code 129 ne))
+
+  -- reset node
+  pub reset-outcome : addressed to (d .node) ≡ true → code ≡ 129 → Same (machinesOf r) (freshMachines (d .node .number))
+      → Outcome (machinesOf d) (command code to) (plain 0) (machinesOf r)
+  unfolding obeyNode
+  reset-outcome h e s = commanded (λ k i l. s .at k i l ∙ rw (h, e))
+
+-- for another node
+pub other-outcome : (d : Device) (code to : ℕ) → refusal (conditions (d .node)) (command code to) ≡ 0 → addressed to (d .node) ≡ false
+    → Outcome (machinesOf d) (command code to) (plain 0) (machinesOf d)
+other-outcome d code to taken h = commanded d d code to taken (λ k i l. rw h (made refl (sym (move-still (fault (d .node)) k (ownOf d k i)))))
+
+-- ---- samples and drives
+
+-- what is known once the buffers have their lengths
+pub record Sampling (d r : Device) (digital : List ℕ) (analogue : List ℤ) (shown : List ℕ) (events : ℕ) : Type 0 where
+  pub node : r .node ≡ d .node
+  pub outputs : r .outputs ≡ d .outputs
+  pub row : Row
+  pub edges : Row
+  pub reported : Row
+  pub loaded : line.Loaded digital row
+  pub lines : line.Sampled (d .lines .words) row edges (r .lines .words)
+  pub gated : (i : ℕ) → rowAt reported i ≡ (operational (d .node) && d .node .digital) && rowAt edges i
+  pub stored : shown ≡ bytes 16 (rowAt reported)
+  pub channels : channel.AllSampled (operational (d .node) && d .node .analogue) analogue (d .inputs) events (r .inputs)
+
+module _ {d r : Device} {digital : List ℕ} {analogue : List ℤ} {shown : List ℕ} {n : ℕ} (s : Sampling d r digital analogue shown n) where
+  reported-is : (i : ℕ) → i < 128 → rowAt (s .reported) i ≡ lineEvents (machinesOf d) digital i
+  unfolding lineEvent
+  reported-is i h =
+      s .gated i
+      ∙ ap (λ (b : Bool). (operational (d .node) && d .node .digital) && b)
+        (s .lines .edges i h ∙ ap (λ (b : Bool). edge b (inputAt (d .lines .words) i)) (s .loaded .at i h))
+
+  sampled-machines : (events : List ℕ) → accepted (d .node) (sample digital analogue events) ≡ true → Same (machinesOf r) (stepAll (sample digital analogue events) (machinesOf d))
+  unfolding channelEvent met
+  sampled-machines events t =
+      by-kind (machinesOf r) (stepAll (sample digital analogue events) (machinesOf d))
+      (made (s .node) refl ∙ sym (sample-step nodeAlone 0 digital analogue events (machinesOf d nodeAlone 0) t))
+      (λ i h. made (s .node) (s .lines .inputs i h ∙ ap (λ (b : Bool). sampleLine b (inputAt (d .lines .words) i)) (s .loaded .at i h))
+          ∙ sym (sample-step inputLine i digital analogue events (machinesOf d inputLine i) t))
+      (λ i h. made (s .node) (s .lines .outputs i h) ∙ sym (sample-step outputLine i digital analogue events (machinesOf d outputLine i) t))
+      (λ i h. made (s .node) (s .channels .channels i h)
+          ∙ sym (sample-step analogueInput i digital analogue events (machinesOf d analogueInput i) t))
+      (λ i h. made (s .node) (ap (λ (xs : List AnalogueOutput). channel.outputOf xs i) (s .outputs))
+          ∙ sym (sample-step analogueOutput i digital analogue events (machinesOf d analogueOutput i) t))
+
+  pub sample-outcome : (events : List ℕ) → refusal (conditions (d .node)) (sample digital analogue events) ≡ 0
+      → Outcome (machinesOf d) (sample digital analogue events) (sampleReply n shown) (machinesOf r)
+  unfolding answer channelEvent met
+  sample-outcome events e =
+      accepted-outcome d r (sample digital analogue events) (sampleReply n shown) e (sampled-machines events)
+      (ap₂ sampleReply (s .channels .events-are) (s .stored ∙ bytes-cong 16 (rowAt (s .reported)) (lineEvents (machinesOf d) digital) reported-is))
+
+pub drive-outcome : (d : Device) (lines out : List ℕ) (channels numbers : List ℤ) → refusal (conditions (d .node)) (drive lines channels) ≡ 0
+    → line.Driven (d .lines .words) out → channel.Driven (d .outputs) numbers
+    → Outcome (machinesOf d) (drive lines channels) (driveReply out numbers) (machinesOf d)
+unfolding answer
+drive-outcome d lines out channels numbers e l c =
+    accepted-outcome d d (drive lines channels) (driveReply out numbers) e
+    (λ t. record { at = λ k i h. sym (drive-step k i lines channels (machinesOf d k i)) })
+    (ap₂ driveReply (l .bytes) (c .numbers))
