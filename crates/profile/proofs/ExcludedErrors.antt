@@ -76,6 +76,14 @@ stop-by k i to m true e h =
 pub no-setting-by-stop : (k : Kind) (i to : ℕ) (m : Machine k) → fault (m .node) ≡ true → step k i (command 2 to) m .own ≡ m .own
 no-setting-by-stop k i to m h = stop-by k i to m (accepted (m .node) (command 2 to)) refl h
 
+-- and where fault begins, d becomes the error value itself, whatever the polarity, or stays
+pub fault-begins : (i : ℕ) (cause : Cause) (m : Machine outputLine) → fault (m .node) ≡ false
+    → step outputLine i (raise cause) m .own .driven ≡ cond (m .own .errorMode) (m .own .errorValue) (m .own .driven)
+unfolding moveOutputLine
+fault-begins i cause m h =
+    ap (λ (x : Machine outputLine). x .own .driven) (raise-step outputLine i cause m)
+    ∙ ap₂ (λ (a b : Bool). moveOutputLine a b (m .own) .driven) h (raised-fault cause (m .node))
+
 -- ---- a write of polarity is no event and leaves f and c; so is any other write
 
 writes-plain : (ms : Machines) (index sub : ℕ) (payload : List ℕ) (number : ℕ) (t : Bool)
