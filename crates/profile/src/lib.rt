@@ -1,5 +1,12 @@
 // Document 01 as types that the code and the definitions of specs/ share.
 
+// What calls and causes make of a node.
+pub mod nodes;
+// Which entry an index and a sub-index name.
+pub mod entries;
+// Why a call is refused.
+pub mod refusals;
+
 // A node is pre-operational, operational or stopped.
 pub enum State {
     PreOperational,
