@@ -1,16 +1,17 @@
 -- What the functions on analogue channels promise. A channel past the end of an array is read as one with every field 0.
 -- Assumes nothing.
 use mathlib.Core.Path.{_≡_}
-use mathlib.Core.Bool.{Bool, false, _&&_}
+use mathlib.Core.Bool.{Bool, false, cond, _&&_}
 use mathlib.Core.List.{List}
 use Prim.Native.Nat.{ℕ, _<_}
+use lib.Dec.{eqb}
 use lib.ListN.{getD}
 use lib.IntN.{ℤ, pos}
 use Rattle.profile.specs.declared.AnalogueInput.{AnalogueInput}
 use Rattle.profile.specs.declared.AnalogueOutput.{AnalogueOutput}
 use Rattle.profile.specs.Bits.{gather}
 use Rattle.profile.specs.Bytes.{listFrom}
-use Rattle.profile.specs.Analogue.{meets, sampleChannel, clearSource, moveAnalogueOutput}
+use Rattle.profile.specs.Analogue.{meets, sampleChannel, clearSource, writeAnalogueInput, writeAnalogueOutput, moveAnalogueOutput}
 
 abbrev pub blankInput : AnalogueInput
 blankInput = record { selection = 0; upper = pos 0; lower = pos 0; delta = 0; negative = 0; positive = 0; last = pos 0; reference = pos 0; source = false }
@@ -43,6 +44,13 @@ pub record AllSampled (on : Bool) (xs : List ℤ) (old : List AnalogueInput) (ev
 pub record SourcesTaken (old : List AnalogueInput) (sources : ℕ) (new : List AnalogueInput) : Type 0 where
   pub sources-are : sources ≡ gather 16 (λ n. inputOf old n .source)
   pub channels : (n : ℕ) → n < 16 → inputOf new n ≡ clearSource (inputOf old n)
+
+-- v was written to an index of channel n
+pub record InputWritten (index n v : ℕ) (old new : List AnalogueInput) : Type 0 where
+  pub channels : (i : ℕ) → i < 16 → inputOf new i ≡ cond (eqb i n) (writeAnalogueInput index v (inputOf old i)) (inputOf old i)
+
+pub record OutputWritten (fault : Bool) (index n v : ℕ) (old new : List AnalogueOutput) : Type 0 where
+  pub channels : (i : ℕ) → i < 8 → outputOf new i ≡ cond (eqb i n) (writeAnalogueOutput fault index v (outputOf old i)) (outputOf old i)
 
 -- fault was `before` and is `after`, at eight outputs
 pub record AllMoved (before after : Bool) (old new : List AnalogueOutput) : Type 0 where

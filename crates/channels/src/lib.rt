@@ -1,8 +1,4 @@
 // The sixteen analogue inputs and eight analogue outputs.
-use profile::AnalogueInput;
-use profile::AnalogueOutput;
-
-pub struct SampledChannel {
-    pub event: bool,
-    pub channel: AnalogueInput,
-}
+pub mod inputs;
+pub mod numbers;
+pub mod outputs;

@@ -1,0 +1,11 @@
+-- Laws that the proofs of this crate cite, and those above it may.
+-- Assumes nothing.
+pub mod TestLaws
+pub mod SignedLaws
+pub mod TwosComplement
+pub mod ByteLaws
+pub mod MeetsLaws
+pub mod Mapped
+pub mod SetLaws
+pub mod Gathered
+pub mod WriteLaws

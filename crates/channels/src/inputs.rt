@@ -1,0 +1,210 @@
+// The analogue inputs.
+use crate::numbers::bits16;
+use crate::numbers::bits32;
+use crate::numbers::signed32;
+use profile::AnalogueInput;
+ghost use mathlib.Core.Path.{_≡_};
+ghost use Prim.Native.Nat.{_-_, _*_, _^_, _<_};
+ghost use lib.ListN.{length};
+ghost use Rattle.profile.specs.Bits.{bit};
+ghost use Rattle.profile.specs.Entries.{inputSize};
+ghost use Rattle.profile.specs.Analogue.{meets, readAnalogueInput, writeAnalogueInput};
+ghost use Rattle.channels.specs.Numbers.{raised};
+ghost use Rattle.channels.specs.Promises.{Sampled, AllSampled, SourcesTaken, InputWritten};
+
+pub struct SampledChannel {
+    pub event: bool,
+    pub channel: AnalogueInput,
+}
+
+pub struct SampledInputs {
+    // Bit n - 1 for channel n.
+    pub events: u16,
+    pub channels: [AnalogueInput; 16],
+}
+
+pub struct SourcesRead {
+    // Bit n - 1 for channel n.
+    pub sources: u16,
+    pub channels: [AnalogueInput; 16],
+}
+
+// Counted up from -32,768, so that no difference of two wraps.
+fn raise(x: i16) -> u32
+    ensures { λ r. ⌜ r ≡ raised 32768 x ⌝ }
+{
+    ((x as i32) + 32768) as u32
+}
+
+// How far b is above a, or 0.
+fn gap(a: u32, b: u32) -> u32
+    ensures { λ r. ⌜ r ≡ b - a ⌝ }
+{
+    if a < b { b - a } else { 0 }
+}
+
+// Whether a sample meets a condition that 6421 selects.
+pub fn meets_selected(channel: AnalogueInput, x: i16) -> bool
+    ensures { λ r. ⌜ r ≡ meets x channel ⌝ }
+{
+    let selection = channel.selection;
+    let to = raise(x);
+    let from = raise(channel.reference);
+    let fall = gap(to, from);
+    let rise = gap(from, to);
+    let differs = x != channel.last;
+    let upper = (channel.upper < x as i32) & differs;
+    let lower = ((x as i32) < channel.lower) & differs;
+    let delta = (channel.delta < fall) | (channel.delta < rise);
+    let negative = channel.negative < fall;
+    let positive = channel.positive < rise;
+    ((selection % 2 == 1) & upper)
+        | ((selection / 2 % 2 == 1) & lower)
+        | ((selection / 4 % 2 == 1) & delta)
+        | ((selection / 8 % 2 == 1) & negative)
+        | ((selection / 16 % 2 == 1) & positive)
+}
+
+// Events are on while the node is operational and 6423 is 1.
+pub fn sampled(channel: AnalogueInput, x: i16, on: bool) -> SampledChannel
+    ensures { λ r. ⌜ Sampled on x channel (r .event) (r .channel) ⌝ }
+{
+    let event = on & meets_selected(channel, x);
+    let mut next = channel;
+    next.last = x;
+    if event {
+        next.reference = x;
+        next.source = true;
+    }
+    SampledChannel {
+        event,
+        channel: next,
+    }
+}
+
+fn weigh(b: bool, weight: u32) -> u32
+    ensures { λ r. ⌜ r ≡ bit b * weight ⌝ }
+{
+    if b { weight } else { 0 }
+}
+
+pub fn sample_all(channels: [AnalogueInput; 16], xs: &[i16], on: bool) -> SampledInputs
+    requires { ⌜ length (now xs) ≡ 16 ⌝ }
+    ensures { λ r. ⌜ AllSampled on (now (xs .entry)) channels (r .events) (r .channels) ⌝ }
+{
+    let mut next = channels;
+    let mut events: u32 = 0;
+    let mut weight: u32 = 1;
+    let mut i: usize = 0;
+    while i < 16 {
+        let x = xs[i];
+        let old = next[i];
+        let result = sampled(old, x, on);
+        let channel = result.channel;
+        next[i] = channel;
+        events += weigh(result.event, weight);
+        weight *= 2;
+        i += 1;
+    }
+    SampledInputs {
+        events: events as u16,
+        channels: next,
+    }
+}
+
+// A read of 6422:1 answers the source bits, then clears them all.
+pub fn take_sources(channels: [AnalogueInput; 16]) -> SourcesRead
+    ensures { λ r. ⌜ SourcesTaken channels (r .sources) (r .channels) ⌝ }
+{
+    let mut next = channels;
+    let mut sources: u32 = 0;
+    let mut weight: u32 = 1;
+    let mut i: usize = 0;
+    while i < 16 {
+        let mut channel = next[i];
+        sources += weigh(channel.source, weight);
+        channel.source = false;
+        next[i] = channel;
+        weight *= 2;
+        i += 1;
+    }
+    SourcesRead {
+        sources: sources as u16,
+        channels: next,
+    }
+}
+
+// The value that an index has for a channel, as an unsigned number.
+pub fn read_input(channel: AnalogueInput, index: u16) -> u32
+    ensures { λ r. ⌜ r ≡ readAnalogueInput index channel ⌝ }
+{
+    if index == 0x6401 {
+        return bits16(channel.last) as u32;
+    }
+    if index == 0x6421 {
+        return channel.selection as u32;
+    }
+    if index == 0x6424 {
+        return bits32(channel.upper);
+    }
+    if index == 0x6425 {
+        return bits32(channel.lower);
+    }
+    if index == 0x6426 {
+        return channel.delta;
+    }
+    if index == 0x6427 {
+        return channel.negative;
+    }
+    channel.positive
+}
+
+// A value of as many bytes as the index has.
+pub fn write_input(channel: AnalogueInput, index: u16, value: u32) -> AnalogueInput
+    requires { ⌜ value < 256 ^ inputSize index ⌝ }
+    ensures { λ r. ⌜ r ≡ writeAnalogueInput index value channel ⌝ }
+{
+    let number = signed32(value);
+    let mut next = channel;
+    if index == 0x6421 {
+        next.selection = value as u8;
+        return next;
+    }
+    if index == 0x6424 {
+        next.upper = number;
+        return next;
+    }
+    if index == 0x6425 {
+        next.lower = number;
+        return next;
+    }
+    if index == 0x6426 {
+        next.delta = value;
+        return next;
+    }
+    if index == 0x6427 {
+        next.negative = value;
+        return next;
+    }
+    if index == 0x6428 {
+        next.positive = value;
+        return next;
+    }
+    next
+}
+
+// The channels with a value written to one of them.
+pub fn write_inputs(
+    channels: [AnalogueInput; 16],
+    n: usize,
+    index: u16,
+    value: u32,
+) -> [AnalogueInput; 16]
+    requires { ⌜ (n < 16) × (value < 256 ^ inputSize index) ⌝ }
+    ensures { λ r. ⌜ InputWritten index n value channels r ⌝ }
+{
+    let mut next = channels;
+    let channel = next[n];
+    next[n] = write_input(channel, index, value);
+    next
+}
