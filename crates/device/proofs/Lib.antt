@@ -3,3 +3,5 @@
 pub mod MachineLaws
 pub mod OutcomeLaws
 pub mod EveryList
+pub mod EntryLaws
+pub mod Determined

@@ -2,29 +2,32 @@
 -- Assumes nothing.
 use mathlib.Core.Path.{_≡_, refl, ap, ap₂, _∙_, sym}
 use mathlib.Core.Bool.{Bool, true, false, not, cond, _||_, _&&_, or-false}
-use mathlib.Core.List.{List}
-use Prim.Native.Nat.{ℕ, zero, suc, _<_}
+use mathlib.Core.List.{List, [], _∷_}
+use Prim.Native.Nat.{ℕ, zero, suc, _<_, _%_}
 use native.Mathlib.Omega.{arith}
 use lib.Dec.{eqb, ltb, leb}
-use lib.ListN.{length, getD, set}
-use lib.Seq.{getD-set-same, getD-set-other}
+use lib.ListN.{replicate, getD-replicate}
+use types.Run.{OneOf, miss}
+use denote.Enum.Declared.{tagOf}
 use lib.IntN.{ℤ, pos}
-use borrow.Author.Tests.{eqb-true, eqb-false}
+use borrow.Author.Tests.{eqb-true}
 use Rattle.profile.specs.declared.Node.{Node}
 use Rattle.profile.specs.declared.Entry.{Entry}
 use Rattle.profile.specs.declared.Entry.the-variants.{Absent, Constant, Window, Input, Output, Sources, Device}
 use Rattle.profile.specs.declared.AnalogueInput.{AnalogueInput}
 use Rattle.profile.specs.declared.AnalogueOutput.{AnalogueOutput}
 use Rattle.profile.specs.Bits.{bitAt}
-use Rattle.profile.specs.Nodes.{fault}
+use Rattle.profile.specs.Nodes.{freshNode, fault}
 use Rattle.profile.specs.Entries.{inside, bitOf}
 use Rattle.profile.specs.DigitalInput.{InputLine, writeInputLine}
 use Rattle.profile.specs.DigitalOutput.{OutputLine, writeOutputLine}
-use Rattle.profile.specs.Analogue.{writeAnalogueInput, writeAnalogueOutput}
+use Rattle.profile.specs.Analogue.{freshAnalogueInput, writeAnalogueInput, freshAnalogueOutput, writeAnalogueOutput}
 use Rattle.profile.specs.Machines.{Kind, nodeAlone, inputLine, outputLine, analogueInput, analogueOutput, count, Own, Machine, readsSources, writeNode, clearOwn}
-use Rattle.profile.specs.Replies.{Machines}
+use Rattle.profile.specs.Replies.{Machines, freshMachines}
+use Rattle.profile.proofs.BitLaws.{bit-zero}
+use Rattle.profile.proofs.Entry.{the-type}
 use Rattle.profile.specs.Lists.{Same}
-use Rattle.lines.specs.View.{inputAt, outputAt}
+use Rattle.lines.specs.View.{rowAt, inputAt, outputAt}
 use Rattle.lines.specs.Promises as line
 use Rattle.channels.specs.Promises as channel
 use Rattle.device.specs.declared.Device as the
@@ -45,9 +48,20 @@ by-kind a b n p q r s = record { at = at }
     at analogueInput i h = r i h
     at analogueOutput i h = s i h
 
+pub same-refl : (a : Machines) → Same a a
+same-refl a = record { at = λ k i h. refl }
+
 -- a machine from its node and its own part
 pub made : {k : Kind} {n m : Node} {o p : Own k} → n ≡ m → o ≡ p → _≡_ {A = Machine k} (record { node = n; own = o }) (record { node = m; own = p })
 made e f = λ t. record { node = e t; own = f t }
+
+-- every machine is fresh
+pub fresh-machines : (d : the.Device) (number : ℕ) → d .node ≡ freshNode number → line.Fresh (d .lines .words)
+    → d .inputs ≡ replicate 16 freshAnalogueInput → d .outputs ≡ replicate 8 freshAnalogueOutput → Same (machinesOf d) (freshMachines number)
+fresh-machines d number n l is os =
+    by-kind (machinesOf d) (freshMachines number) (made n refl) (λ i h. made n (l .inputs i h)) (λ i h. made n (l .outputs i h))
+    (λ i h. made n (ap (λ (xs : List AnalogueInput). channel.inputOf xs i) is ∙ getD-replicate 16 i freshAnalogueInput channel.blankInput h))
+    (λ i h. made n (ap (λ (xs : List AnalogueOutput). channel.outputOf xs i) os ∙ getD-replicate 8 i freshAnalogueOutput channel.blankOutput h))
 
 -- lines and channels stayed
 pub owns-same : (d r : the.Device) → r .lines .words ≡ d .lines .words → r .inputs ≡ d .inputs → r .outputs ≡ d .outputs
@@ -82,47 +96,26 @@ module _ (d r : the.Device) (node : r .node ≡ d .node) where
       (λ i h. made node (ap (λ (xs : List AnalogueInput). channel.inputOf xs i) is))
       (λ i h. made node (ap (λ (xs : List AnalogueOutput). channel.outputOf xs i) os))
 
--- an element set, read at any place
-module _ {A : Type 0} (xs : List A) (n : ℕ) (x blank : A) (inside : n < length xs) where
-  set-by : (i : ℕ) (t : Bool) → eqb i n ≡ t → getD (set xs n x) i blank ≡ cond t x (getD xs i blank)
-  set-by i true e = rw (eqb-true i n e) (getD-set-same xs n x blank inside)
-  set-by i false e = getD-set-other xs n i x blank (eqb-false i n e)
-
-  pub set-at : (i : ℕ) → getD (set xs n x) i blank ≡ cond (eqb i n) x (getD xs i blank)
-  set-at i = set-by i (eqb i n) refl
-
-named : {A : Type 0} (f : A → A) (xs : List A) (blank : A) (i n : ℕ) (t : Bool) → eqb i n ≡ t
-    → cond t (f (getD xs n blank)) (getD xs i blank) ≡ cond t (f (getD xs i blank)) (getD xs i blank)
-named f xs blank i n true e = ap (λ (j : ℕ). f (getD xs j blank)) (sym (eqb-true i n e))
-named f xs blank i n false e = refl
-
 module _ (d r : the.Device) (node : r .node ≡ d .node) (lines : r .lines .words ≡ d .lines .words) where
-  pub input-wrote : (index n v : ℕ) → n < length (d .inputs) → r .inputs ≡ set (d .inputs) n (writeAnalogueInput index v (channel.inputOf (d .inputs) n))
-      → r .outputs ≡ d .outputs → Same (machinesOf r) (wrote (Input index n) v d)
-  input-wrote index n v h is os =
+  pub input-wrote : (index n v : ℕ) → channel.InputWritten index n v (d .inputs) (r .inputs) → r .outputs ≡ d .outputs → Same (machinesOf r) (wrote (Input index n) v d)
+  input-wrote index n v is os =
       by-kind (machinesOf r) (wrote (Input index n) v d) (made node refl)
       (λ i l. made node (ap (λ (ws : List ℕ). inputAt ws i) lines)) (λ i l. made node (ap (λ (ws : List ℕ). outputAt ws i) lines))
-      (λ i l. made node (ap (λ (xs : List AnalogueInput). channel.inputOf xs i) is
-          ∙ set-at (d .inputs) n (writeAnalogueInput index v (channel.inputOf (d .inputs) n)) channel.blankInput h i
-          ∙ named (writeAnalogueInput index v) (d .inputs) channel.blankInput i n (eqb i n) refl)
-        ∙ choice (eqb i n) (d .node) (writeAnalogueInput index v (channel.inputOf (d .inputs) i)) (channel.inputOf (d .inputs) i))
+      (λ i l. made node (is .channels i l) ∙ choice (eqb i n) (d .node) (writeAnalogueInput index v (channel.inputOf (d .inputs) i)) (channel.inputOf (d .inputs) i))
       (λ i l. made node (ap (λ (xs : List AnalogueOutput). channel.outputOf xs i) os))
 
-  pub output-wrote : (index n v : ℕ) → n < length (d .outputs)
-      → r .outputs ≡ set (d .outputs) n (writeAnalogueOutput (fault (d .node)) index v (channel.outputOf (d .outputs) n))
-      → r .inputs ≡ d .inputs → Same (machinesOf r) (wrote (Output index n) v d)
-  output-wrote index n v h os is =
+  pub output-wrote : (index n v : ℕ) → channel.OutputWritten (fault (d .node)) index n v (d .outputs) (r .outputs) → r .inputs ≡ d .inputs
+      → Same (machinesOf r) (wrote (Output index n) v d)
+  output-wrote index n v os is =
       by-kind (machinesOf r) (wrote (Output index n) v d) (made node refl)
       (λ i l. made node (ap (λ (ws : List ℕ). inputAt ws i) lines)) (λ i l. made node (ap (λ (ws : List ℕ). outputAt ws i) lines))
       (λ i l. made node (ap (λ (xs : List AnalogueInput). channel.inputOf xs i) is))
-      (λ i l. made node (ap (λ (xs : List AnalogueOutput). channel.outputOf xs i) os
-          ∙ set-at (d .outputs) n (writeAnalogueOutput (fault (d .node)) index v (channel.outputOf (d .outputs) n)) channel.blankOutput h i
-          ∙ named (writeAnalogueOutput (fault (d .node)) index v) (d .outputs) channel.blankOutput i n (eqb i n) refl)
-        ∙ choice (eqb i n) (d .node) (writeAnalogueOutput (fault (d .node)) index v (channel.outputOf (d .outputs) i)) (channel.outputOf (d .outputs) i))
+      (λ i l. made node (os .channels i l)
+      ∙ choice (eqb i n) (d .node) (writeAnalogueOutput (fault (d .node)) index v (channel.outputOf (d .outputs) i)) (channel.outputOf (d .outputs) i))
 
 setting-by : (index v : ℕ) (n : Node) (k : Kind) (o : Own k) (t : Bool) → eqb index 0x1001 ≡ t
     → _≡_ {A = Machine k} (record { node = writeNode (Device index) v n; own = o })
-      (cond (not t) (record { node = writeNode (Device index) v n; own = o }) (record { node = n; own = o }))
+    (cond (not t) (record { node = writeNode (Device index) v n; own = o }) (record { node = n; own = o }))
 setting-by index v n k o true e = made (ap (λ (x : ℕ). writeNode (Device x) v n) (eqb-true index 0x1001 e)) refl
 setting-by index v n k o false e = refl
 
@@ -134,9 +127,20 @@ setting-wrote d r index v n ls is os =
       at = λ k i h.
           made n (owns-same d r ls is os k i)
           ∙ setting-by index v (d .node) k (ownOf d k i) (eqb index 0x1001) refl
-          ∙ ap (λ (b : Bool). cond b (record { node = writeNode (Device index) v (d .node); own = ownOf d k i }) (machinesOf d k i)) (sym (or-false (not (eqb index 0x1001)))) }
+          ∙ ap (λ (b : Bool). cond b (record { node = writeNode (Device index) v (d .node); own = ownOf d k i }) (machinesOf d k i)) (sym (or-false (not (eqb index 0x1001))));
+    }
 
 -- ---- reads
+
+-- where `if let Entry::Sources` does not match, no source bit is read
+pub not-sources : (e : Entry) → OneOf (0 ∷ 1 ∷ 2 ∷ 3 ∷ 4 ∷ 6 ∷ []) (tagOf the-type e) → readsSources e ≡ false
+not-sources (Absent code) h = refl
+not-sources (Constant size v) h = refl
+not-sources (Window row w s) h = refl
+not-sources (Input index n) h = refl
+not-sources (Output index n) h = refl
+not-sources Sources h = absurd (miss (0 ∷ 1 ∷ 2 ∷ 3 ∷ 4 ∷ 6 ∷ []) 5 tt h)
+not-sources (Device index) h = refl
 
 -- any entry but 6422:1 leaves every machine
 pub read-same : (d : the.Device) (e : Entry) → readsSources e ≡ false → Same (machinesOf d) (hasRead e d)
@@ -149,3 +153,14 @@ sources-read d r sources n ls is os =
     by-kind (machinesOf r) (hasRead Sources d) (made n refl)
     (λ i l. made n (ap (λ (ws : List ℕ). inputAt ws i) ls)) (λ i l. made n (ap (λ (ws : List ℕ). outputAt ws i) ls))
     (λ i l. made n (is .channels i l)) (λ i l. made n (ap (λ (xs : List AnalogueOutput). channel.outputOf xs i) os))
+
+-- ---- samples
+
+-- a row with no line set
+pub zero-row : (i : ℕ) → rowAt (record { low = 0; high = 0 }) i ≡ false
+unfolding rowAt
+zero-row i = ap₂ (cond (ltb i 64)) (bit-zero (i % 64)) (bit-zero (i % 64)) ∙ by (ltb i 64)
+  where
+    by : (b : Bool) → cond b false false ≡ false
+    by true = refl
+    by false = refl

@@ -1,14 +1,14 @@
 -- From what the code of a call knows at each return to the promise of the call.
 -- Assumes nothing.
 use mathlib.Core.Path.{_≡_, refl, ap, ap₂, _∙_, sym}
-use mathlib.Core.Bool.{Bool, true, false, not, cond, _||_, _&&_}
+use mathlib.Core.Bool.{Bool, true, false, not, cond, _||_, _&&_, false≢true}
 use mathlib.Core.List.{List, [], _∷_, _++_}
 use Prim.Native.Nat.{ℕ, _<_, _≤_}
 use native.Mathlib.Omega.{arith}
 use lib.Dec.{eqb}
 use lib.ListN.{length, getD}
 use lib.IntN.{ℤ, pos}
-use borrow.Author.Tests.{eq-eqb, ne-eqb}
+use borrow.Author.Tests.{eq-eqb, ne-eqb, eqb-true, not-false}
 use Rattle.profile.specs.declared.Node.{Node}
 use Rattle.profile.specs.declared.Cause.{Cause}
 use Rattle.profile.specs.declared.Entry.{Entry}
@@ -26,7 +26,7 @@ use Rattle.channels.specs.Promises.{met}
 use Rattle.profile.specs.Nodes.{operational, fault, raiseNode, clearNode, addressed, obeyNode, commandNode}
 use Rattle.profile.specs.Entries.{entryOf, sizeOf}
 use Rattle.profile.specs.Calls.{Call, Reply, read, write, sample, command, raise, clear, drive}
-use Rattle.profile.specs.Refusals.{Conditions, conditions, first, entryChecks, accessChecks, valueChecks, readRefusal, writeRefusal, refusal, accepted}
+use Rattle.profile.specs.Refusals.{_⇒_, createRefusal, createdNumber, Conditions, conditions, first, entryChecks, accessChecks, valueChecks, readRefusal, writeRefusal, sampleRefusal, driveRefusal, refusal, accepted}
 use Rattle.profile.specs.Machines.{Kind, nodeAlone, inputLine, outputLine, analogueInput, analogueOutput, Machine, count, Own, fresh, step, moveOwn, commandOwn}
 use Rattle.profile.specs.Replies.{Machines, freshMachines, readValue, plain, readReply, sampleReply, driveReply, lineEvents, channelEvents, answer, refuse, reply}
 use Rattle.profile.specs.Lists.{Same, stepAll, Outcome}
@@ -37,7 +37,8 @@ use Rattle.profile.proofs.StepLaws.{refused-step, write-step, read-step, sample
 use Rattle.profile.proofs.ListTheorem.{same-trans}
 use Rattle.device.specs.declared.Device.{Device}
 use Rattle.device.specs.View.{ownOf, machinesOf}
-use Rattle.device.specs.Promises.{moved, wrote, hasRead}
+use Rattle.device.specs.declared.Created.{Created}
+use Rattle.device.specs.Promises.{CreatedAs, moved, wrote, hasRead}
 use Rattle.device.proofs.MachineLaws.{by-kind, made}
 
 -- ---- refused and accepted calls
@@ -49,7 +50,8 @@ refused-outcome d c n e ne =
     let f : accepted (d .node) c ≡ false = ap (λ (x : ℕ). eqb x 0) (sym e) ∙ ne-eqb n 0 ne in
     record {
       machines = record { at = λ k i h. sym (refused-step k i c (machinesOf d k i) f) };
-      replied = ap (λ (x : ℕ). refuse x c) e ∙ ap (λ (b : Bool). cond b (answer (machinesOf d) c) (refuse (refusal (conditions (d .node)) c) c)) (sym f) }
+      replied = ap (λ (x : ℕ). refuse x c) e ∙ ap (λ (b : Bool). cond b (answer (machinesOf d) c) (refuse (refusal (conditions (d .node)) c) c)) (sym f);
+    }
 
 -- an accepted call: every machine stepped, and the reply of the machines
 pub accepted-outcome : (d r : Device) (c : Call) (a : Reply) → refusal (conditions (d .node)) c ≡ 0
@@ -60,7 +62,24 @@ accepted-outcome d r c a e same q =
     let t : accepted (d .node) c ≡ true = eq-eqb (refusal (conditions (d .node)) c) 0 e in
     record {
       machines = same t;
-      replied = q ∙ ap (λ (b : Bool). cond b (answer (machinesOf d) c) (refuse (refusal (conditions (d .node)) c) c)) (sym t) }
+      replied = q ∙ ap (λ (b : Bool). cond b (answer (machinesOf d) c) (refuse (refusal (conditions (d .node)) c) c)) (sym t);
+    }
+
+-- ---- create
+
+pub created-refused : (number : ℕ) (r : Created) → r .number ≡ createRefusal number → (r .number ≡ 0 → ⊥) → Same (machinesOf (r .device)) (freshMachines 127) → CreatedAs number r
+created-refused number r e ne s =
+    record {
+      numbered = e;
+      machines = rw (ap (λ (x : ℕ). eqb x 0) (sym e) ∙ ne-eqb (r .number) 0 ne) s;
+    }
+
+pub created-accepted : (number : ℕ) (r : Created) → 0 ≡ createRefusal number → r .number ≡ 0 → Same (machinesOf (r .device)) (freshMachines number) → CreatedAs number r
+created-accepted number r e z s =
+    record {
+      numbered = z ∙ e;
+      machines = rw (sym e) s;
+    }
 
 -- ---- raise and clear
 
@@ -94,7 +113,7 @@ unfolding refusal writeRefusal answer
 write-outcome d r index sub payload a v s =
     accepted-outcome d r (write index sub payload) (plain 0)
     (first-skip (accessChecks (conditions (d .node)) (entryOf index sub) (length payload)) (valueChecks (entryOf index sub) (littleEndian payload))
-      (none-holds (accessChecks (conditions (d .node)) (entryOf index sub) (length payload)) (access-sound (conditions (d .node)) (entryOf index sub) (length payload) (in-range index sub)) a) ∙ v)
+    (none-holds (accessChecks (conditions (d .node)) (entryOf index sub) (length payload)) (access-sound (conditions (d .node)) (entryOf index sub) (length payload) (in-range index sub)) a) ∙ v)
     (λ t. record { at = λ k i h. s .at k i h ∙ sym (write-step k i index sub payload (entryOf index sub) (machinesOf d k i) refl t) })
     refl
 
@@ -108,7 +127,7 @@ unfolding refusal writeRefusal refuse
 access-refused d index sub payload n e ne =
     refused-outcome d (write index sub payload) n
     (e ∙ sym (first-stop (accessChecks (conditions (d .node)) (entryOf index sub) (length payload)) (valueChecks (entryOf index sub) (littleEndian payload))
-      (rw e at (positive n ne)))) ne
+    (rw e at (positive n ne)))) ne
 
 pub value-refused : (d : Device) (index sub : ℕ) (payload : List ℕ) (n : ℕ) → first (accessChecks (conditions (d .node)) (entryOf index sub) (length payload)) ≡ 0
     → n ≡ first (valueChecks (entryOf index sub) (littleEndian payload)) → (n ≡ 0 → ⊥) → Outcome (machinesOf d) (write index sub payload) (plain n) (machinesOf d)
@@ -116,7 +135,7 @@ unfolding refusal writeRefusal refuse
 value-refused d index sub payload n a e ne =
     refused-outcome d (write index sub payload) n
     (e ∙ sym (first-skip (accessChecks (conditions (d .node)) (entryOf index sub) (length payload)) (valueChecks (entryOf index sub) (littleEndian payload))
-      (none-holds (accessChecks (conditions (d .node)) (entryOf index sub) (length payload)) (access-sound (conditions (d .node)) (entryOf index sub) (length payload) (in-range index sub)) a))) ne
+    (none-holds (accessChecks (conditions (d .node)) (entryOf index sub) (length payload)) (access-sound (conditions (d .node)) (entryOf index sub) (length payload) (in-range index sub)) a))) ne
 
 -- ---- commands
 
@@ -158,6 +177,24 @@ other-outcome d code to taken h = commanded d d code to taken (λ k i l. rw h (m
 
 -- ---- samples and drives
 
+-- the lengths of the buffers of an accepted sample, and of an accepted drive
+pub sample-lengths : (a b e : ℕ) → sampleRefusal a b e ≡ 0 → (a ≡ 16) × (b ≡ 16) × (e ≡ 16)
+unfolding sampleRefusal
+sample-lengths a b e z =
+    let none = none-holds ((not (eqb a 16) ⇒ 3) ∷ (not (eqb b 16) ⇒ 4) ∷ (not (eqb e 16) ⇒ 5) ∷ []) (λ h. omega arith, (λ h. omega arith, (λ h. omega arith, tt))) z in
+    (eqb-true a 16 (not-false (eqb a 16) (none .0)), eqb-true b 16 (not-false (eqb b 16) (none .1 .0)), eqb-true e 16 (not-false (eqb e 16) (none .1 .1 .0)))
+
+both-true : (a b : Bool) → a && b ≡ true → (a ≡ true) × (b ≡ true)
+both-true true b e = (refl, e)
+both-true false b e = absurd (false≢true e)
+
+pub drive-lengths : (a b : ℕ) → driveRefusal a b ≡ 0 → (a ≡ 16) × (b ≡ 8)
+unfolding driveRefusal
+drive-lengths a b z =
+    let none = none-holds ((not (eqb a 16 && eqb b 8) ⇒ 6) ∷ []) (λ h. omega arith, tt) z in
+    let both = both-true (eqb a 16) (eqb b 8) (not-false (eqb a 16 && eqb b 8) (none .0)) in
+    (eqb-true a 16 (both .0), eqb-true b 8 (both .1))
+
 -- what is known once the buffers have their lengths
 pub record Sampling (d r : Device) (digital : List ℕ) (analogue : List ℤ) (shown : List ℕ) (events : ℕ) : Type 0 where
   pub node : r .node ≡ d .node
@@ -177,7 +214,7 @@ module _ {d r : Device} {digital : List ℕ} {analogue : List ℤ} {shown : List
   reported-is i h =
       s .gated i
       ∙ ap (λ (b : Bool). (operational (d .node) && d .node .digital) && b)
-        (s .lines .edges i h ∙ ap (λ (b : Bool). edge b (inputAt (d .lines .words) i)) (s .loaded .at i h))
+      (s .lines .edges i h ∙ ap (λ (b : Bool). edge b (inputAt (d .lines .words) i)) (s .loaded .at i h))
 
   sampled-machines : (events : List ℕ) → accepted (d .node) (sample digital analogue events) ≡ true → Same (machinesOf r) (stepAll (sample digital analogue events) (machinesOf d))
   unfolding channelEvent met
@@ -185,12 +222,12 @@ module _ {d r : Device} {digital : List ℕ} {analogue : List ℤ} {shown : List
       by-kind (machinesOf r) (stepAll (sample digital analogue events) (machinesOf d))
       (made (s .node) refl ∙ sym (sample-step nodeAlone 0 digital analogue events (machinesOf d nodeAlone 0) t))
       (λ i h. made (s .node) (s .lines .inputs i h ∙ ap (λ (b : Bool). sampleLine b (inputAt (d .lines .words) i)) (s .loaded .at i h))
-          ∙ sym (sample-step inputLine i digital analogue events (machinesOf d inputLine i) t))
+      ∙ sym (sample-step inputLine i digital analogue events (machinesOf d inputLine i) t))
       (λ i h. made (s .node) (s .lines .outputs i h) ∙ sym (sample-step outputLine i digital analogue events (machinesOf d outputLine i) t))
       (λ i h. made (s .node) (s .channels .channels i h)
-          ∙ sym (sample-step analogueInput i digital analogue events (machinesOf d analogueInput i) t))
+      ∙ sym (sample-step analogueInput i digital analogue events (machinesOf d analogueInput i) t))
       (λ i h. made (s .node) (ap (λ (xs : List AnalogueOutput). channel.outputOf xs i) (s .outputs))
-          ∙ sym (sample-step analogueOutput i digital analogue events (machinesOf d analogueOutput i) t))
+      ∙ sym (sample-step analogueOutput i digital analogue events (machinesOf d analogueOutput i) t))
 
   pub sample-outcome : (events : List ℕ) → refusal (conditions (d .node)) (sample digital analogue events) ≡ 0
       → Outcome (machinesOf d) (sample digital analogue events) (sampleReply n shown) (machinesOf r)
