@@ -30,7 +30,7 @@ impl Device {
     }
 
     // Every object at its default.
-    pub fn fresh(number: u8) -> Device
+    pub(crate) fn fresh(number: u8) -> Device
         ensures { λ r. ⌜ Same (machinesOf r) (freshMachines number) ⌝ }
     {
         let node = Node::fresh(number);
