@@ -52,16 +52,16 @@ pub same-refl : (a : Machines) → Same a a
 same-refl a = record { at = λ k i h. refl }
 
 -- a machine from its node and its own part
-pub made : {k : Kind} {n m : Node} {o p : Own k} → n ≡ m → o ≡ p → _≡_ {A = Machine k} (record { node = n; own = o }) (record { node = m; own = p })
-made e f = λ t. record { node = e t; own = f t }
+pub same-machine : {k : Kind} {n m : Node} {o p : Own k} → n ≡ m → o ≡ p → _≡_ {A = Machine k} (record { node = n; own = o }) (record { node = m; own = p })
+same-machine e f = λ t. record { node = e t; own = f t }
 
 -- every machine is fresh
 pub fresh-machines : (d : the.Device) (number : ℕ) → d .node ≡ freshNode number → line.Fresh (d .lines .words)
     → d .inputs ≡ replicate 16 freshAnalogueInput → d .outputs ≡ replicate 8 freshAnalogueOutput → Same (machinesOf d) (freshMachines number)
 fresh-machines d number n l is os =
-    by-kind (machinesOf d) (freshMachines number) (made n refl) (λ i h. made n (l .inputs i h)) (λ i h. made n (l .outputs i h))
-    (λ i h. made n (ap (λ (xs : List AnalogueInput). channel.inputOf xs i) is ∙ getD-replicate 16 i freshAnalogueInput channel.blankInput h))
-    (λ i h. made n (ap (λ (xs : List AnalogueOutput). channel.outputOf xs i) os ∙ getD-replicate 8 i freshAnalogueOutput channel.blankOutput h))
+    by-kind (machinesOf d) (freshMachines number) (same-machine n refl) (λ i h. same-machine n (l .inputs i h)) (λ i h. same-machine n (l .outputs i h))
+    (λ i h. same-machine n (ap (λ (xs : List AnalogueInput). channel.inputOf xs i) is ∙ getD-replicate 16 i freshAnalogueInput channel.blankInput h))
+    (λ i h. same-machine n (ap (λ (xs : List AnalogueOutput). channel.outputOf xs i) os ∙ getD-replicate 8 i freshAnalogueOutput channel.blankOutput h))
 
 -- lines and channels stayed
 pub owns-same : (d r : the.Device) → r .lines .words ≡ d .lines .words → r .inputs ≡ d .inputs → r .outputs ≡ d .outputs
@@ -76,9 +76,9 @@ owns-same d r ls is os analogueOutput i = ap (λ (xs : List AnalogueOutput). cha
 pub node-moved : (d r : the.Device) (n : Node) → r .node ≡ n → line.Moved (fault (d .node)) (fault n) (d .lines .words) (r .lines .words)
     → r .inputs ≡ d .inputs → channel.AllMoved (fault (d .node)) (fault n) (d .outputs) (r .outputs) → Same (machinesOf r) (moved n d)
 node-moved d r n e l is os =
-    by-kind (machinesOf r) (moved n d) (made e refl)
-    (λ i h. made e (l .inputs i h)) (λ i h. made e (l .outputs i h))
-    (λ i h. made e (ap (λ (xs : List AnalogueInput). channel.inputOf xs i) is)) (λ i h. made e (os .channels i h))
+    by-kind (machinesOf r) (moved n d) (same-machine e refl)
+    (λ i h. same-machine e (l .inputs i h)) (λ i h. same-machine e (l .outputs i h))
+    (λ i h. same-machine e (ap (λ (xs : List AnalogueInput). channel.inputOf xs i) is)) (λ i h. same-machine e (os .channels i h))
 
 -- ---- writes
 
@@ -90,33 +90,33 @@ module _ (d r : the.Device) (node : r .node ≡ d .node) where
   pub window-wrote : (row w s v : ℕ) → line.Written (fault (d .node)) (d .lines .words) row w s v (r .lines .words)
       → r .inputs ≡ d .inputs → r .outputs ≡ d .outputs → Same (machinesOf r) (wrote (Window row w s) v d)
   window-wrote row w s v l is os =
-      by-kind (machinesOf r) (wrote (Window row w s) v d) (made node refl)
-      (λ i h. made node (l .inputs i h) ∙ choice (ltb row 6 && inside w s i) (d .node) (writeInputLine row (bitAt v (bitOf w s i)) (inputAt (d .lines .words) i)) (inputAt (d .lines .words) i))
-      (λ i h. made node (l .outputs i h) ∙ choice (leb 6 row && inside w s i) (d .node) (writeOutputLine (fault (d .node)) row (bitAt v (bitOf w s i)) (outputAt (d .lines .words) i)) (outputAt (d .lines .words) i))
-      (λ i h. made node (ap (λ (xs : List AnalogueInput). channel.inputOf xs i) is))
-      (λ i h. made node (ap (λ (xs : List AnalogueOutput). channel.outputOf xs i) os))
+      by-kind (machinesOf r) (wrote (Window row w s) v d) (same-machine node refl)
+      (λ i h. same-machine node (l .inputs i h) ∙ choice (ltb row 6 && inside w s i) (d .node) (writeInputLine row (bitAt v (bitOf w s i)) (inputAt (d .lines .words) i)) (inputAt (d .lines .words) i))
+      (λ i h. same-machine node (l .outputs i h) ∙ choice (leb 6 row && inside w s i) (d .node) (writeOutputLine (fault (d .node)) row (bitAt v (bitOf w s i)) (outputAt (d .lines .words) i)) (outputAt (d .lines .words) i))
+      (λ i h. same-machine node (ap (λ (xs : List AnalogueInput). channel.inputOf xs i) is))
+      (λ i h. same-machine node (ap (λ (xs : List AnalogueOutput). channel.outputOf xs i) os))
 
 module _ (d r : the.Device) (node : r .node ≡ d .node) (lines : r .lines .words ≡ d .lines .words) where
   pub input-wrote : (index n v : ℕ) → channel.InputWritten index n v (d .inputs) (r .inputs) → r .outputs ≡ d .outputs → Same (machinesOf r) (wrote (Input index n) v d)
   input-wrote index n v is os =
-      by-kind (machinesOf r) (wrote (Input index n) v d) (made node refl)
-      (λ i l. made node (ap (λ (ws : List ℕ). inputAt ws i) lines)) (λ i l. made node (ap (λ (ws : List ℕ). outputAt ws i) lines))
-      (λ i l. made node (is .channels i l) ∙ choice (eqb i n) (d .node) (writeAnalogueInput index v (channel.inputOf (d .inputs) i)) (channel.inputOf (d .inputs) i))
-      (λ i l. made node (ap (λ (xs : List AnalogueOutput). channel.outputOf xs i) os))
+      by-kind (machinesOf r) (wrote (Input index n) v d) (same-machine node refl)
+      (λ i l. same-machine node (ap (λ (ws : List ℕ). inputAt ws i) lines)) (λ i l. same-machine node (ap (λ (ws : List ℕ). outputAt ws i) lines))
+      (λ i l. same-machine node (is .channels i l) ∙ choice (eqb i n) (d .node) (writeAnalogueInput index v (channel.inputOf (d .inputs) i)) (channel.inputOf (d .inputs) i))
+      (λ i l. same-machine node (ap (λ (xs : List AnalogueOutput). channel.outputOf xs i) os))
 
   pub output-wrote : (index n v : ℕ) → channel.OutputWritten (fault (d .node)) index n v (d .outputs) (r .outputs) → r .inputs ≡ d .inputs
       → Same (machinesOf r) (wrote (Output index n) v d)
   output-wrote index n v os is =
-      by-kind (machinesOf r) (wrote (Output index n) v d) (made node refl)
-      (λ i l. made node (ap (λ (ws : List ℕ). inputAt ws i) lines)) (λ i l. made node (ap (λ (ws : List ℕ). outputAt ws i) lines))
-      (λ i l. made node (ap (λ (xs : List AnalogueInput). channel.inputOf xs i) is))
-      (λ i l. made node (os .channels i l)
+      by-kind (machinesOf r) (wrote (Output index n) v d) (same-machine node refl)
+      (λ i l. same-machine node (ap (λ (ws : List ℕ). inputAt ws i) lines)) (λ i l. same-machine node (ap (λ (ws : List ℕ). outputAt ws i) lines))
+      (λ i l. same-machine node (ap (λ (xs : List AnalogueInput). channel.inputOf xs i) is))
+      (λ i l. same-machine node (os .channels i l)
       ∙ choice (eqb i n) (d .node) (writeAnalogueOutput (fault (d .node)) index v (channel.outputOf (d .outputs) i)) (channel.outputOf (d .outputs) i))
 
 setting-by : (index v : ℕ) (n : Node) (k : Kind) (o : Own k) (t : Bool) → eqb index 0x1001 ≡ t
     → _≡_ {A = Machine k} (record { node = writeNode (Device index) v n; own = o })
     (cond (not t) (record { node = writeNode (Device index) v n; own = o }) (record { node = n; own = o }))
-setting-by index v n k o true e = made (ap (λ (x : ℕ). writeNode (Device x) v n) (eqb-true index 0x1001 e)) refl
+setting-by index v n k o true e = same-machine (ap (λ (x : ℕ). writeNode (Device x) v n) (eqb-true index 0x1001 e)) refl
 setting-by index v n k o false e = refl
 
 -- 1029:1, 6005 or 6423
@@ -125,7 +125,7 @@ pub setting-wrote : (d r : the.Device) (index v : ℕ) → r .node ≡ writeNode
 setting-wrote d r index v n ls is os =
     record {
       at = λ k i h.
-          made n (owns-same d r ls is os k i)
+          same-machine n (owns-same d r ls is os k i)
           ∙ setting-by index v (d .node) k (ownOf d k i) (eqb index 0x1001) refl
           ∙ ap (λ (b : Bool). cond b (record { node = writeNode (Device index) v (d .node); own = ownOf d k i }) (machinesOf d k i)) (sym (or-false (not (eqb index 0x1001))));
     }
@@ -144,15 +144,15 @@ not-sources (Device index) h = refl
 
 -- any entry but 6422:1 leaves every machine
 pub read-same : (d : the.Device) (e : Entry) → readsSources e ≡ false → Same (machinesOf d) (hasRead e d)
-read-same d e h = record { at = λ k i l. made refl (ap (λ (b : Bool). cond b (clearOwn k (ownOf d k i)) (ownOf d k i)) (sym h)) }
+read-same d e h = record { at = λ k i l. same-machine refl (ap (λ (b : Bool). cond b (clearOwn k (ownOf d k i)) (ownOf d k i)) (sym h)) }
 
 -- 6422:1 clears the source bits
 pub sources-read : (d r : the.Device) (sources : ℕ) → r .node ≡ d .node → r .lines .words ≡ d .lines .words → channel.SourcesTaken (d .inputs) sources (r .inputs)
     → r .outputs ≡ d .outputs → Same (machinesOf r) (hasRead Sources d)
 sources-read d r sources n ls is os =
-    by-kind (machinesOf r) (hasRead Sources d) (made n refl)
-    (λ i l. made n (ap (λ (ws : List ℕ). inputAt ws i) ls)) (λ i l. made n (ap (λ (ws : List ℕ). outputAt ws i) ls))
-    (λ i l. made n (is .channels i l)) (λ i l. made n (ap (λ (xs : List AnalogueOutput). channel.outputOf xs i) os))
+    by-kind (machinesOf r) (hasRead Sources d) (same-machine n refl)
+    (λ i l. same-machine n (ap (λ (ws : List ℕ). inputAt ws i) ls)) (λ i l. same-machine n (ap (λ (ws : List ℕ). outputAt ws i) ls))
+    (λ i l. same-machine n (is .channels i l)) (λ i l. same-machine n (ap (λ (xs : List AnalogueOutput). channel.outputOf xs i) os))
 
 -- ---- samples
 

@@ -39,7 +39,7 @@ use Rattle.device.specs.declared.Device.{Device}
 use Rattle.device.specs.View.{ownOf, machinesOf}
 use Rattle.device.specs.declared.Created.{Created}
 use Rattle.device.specs.Promises.{CreatedAs, moved, wrote, hasRead}
-use Rattle.device.proofs.MachineLaws.{by-kind, made}
+use Rattle.device.proofs.MachineLaws.{by-kind, same-machine}
 
 -- ---- refused and accepted calls
 
@@ -173,7 +173,7 @@ module _ (d r : Device) (code to : ℕ) (taken : refusal (conditions (d .node)) 
 -- for another node
 pub other-outcome : (d : Device) (code to : ℕ) → refusal (conditions (d .node)) (command code to) ≡ 0 → addressed to (d .node) ≡ false
     → Outcome (machinesOf d) (command code to) (plain 0) (machinesOf d)
-other-outcome d code to taken h = commanded d d code to taken (λ k i l. rw h (made refl (sym (move-still (fault (d .node)) k (ownOf d k i)))))
+other-outcome d code to taken h = commanded d d code to taken (λ k i l. rw h (same-machine refl (sym (move-still (fault (d .node)) k (ownOf d k i)))))
 
 -- ---- samples and drives
 
@@ -220,13 +220,13 @@ module _ {d r : Device} {digital : List ℕ} {analogue : List ℤ} {shown : List
   unfolding channelEvent met
   sampled-machines events t =
       by-kind (machinesOf r) (stepAll (sample digital analogue events) (machinesOf d))
-      (made (s .node) refl ∙ sym (sample-step nodeAlone 0 digital analogue events (machinesOf d nodeAlone 0) t))
-      (λ i h. made (s .node) (s .lines .inputs i h ∙ ap (λ (b : Bool). sampleLine b (inputAt (d .lines .words) i)) (s .loaded .at i h))
+      (same-machine (s .node) refl ∙ sym (sample-step nodeAlone 0 digital analogue events (machinesOf d nodeAlone 0) t))
+      (λ i h. same-machine (s .node) (s .lines .inputs i h ∙ ap (λ (b : Bool). sampleLine b (inputAt (d .lines .words) i)) (s .loaded .at i h))
       ∙ sym (sample-step inputLine i digital analogue events (machinesOf d inputLine i) t))
-      (λ i h. made (s .node) (s .lines .outputs i h) ∙ sym (sample-step outputLine i digital analogue events (machinesOf d outputLine i) t))
-      (λ i h. made (s .node) (s .channels .channels i h)
+      (λ i h. same-machine (s .node) (s .lines .outputs i h) ∙ sym (sample-step outputLine i digital analogue events (machinesOf d outputLine i) t))
+      (λ i h. same-machine (s .node) (s .channels .channels i h)
       ∙ sym (sample-step analogueInput i digital analogue events (machinesOf d analogueInput i) t))
-      (λ i h. made (s .node) (ap (λ (xs : List AnalogueOutput). channel.outputOf xs i) (s .outputs))
+      (λ i h. same-machine (s .node) (ap (λ (xs : List AnalogueOutput). channel.outputOf xs i) (s .outputs))
       ∙ sym (sample-step analogueOutput i digital analogue events (machinesOf d analogueOutput i) t))
 
   pub sample-outcome : (events : List ℕ) → refusal (conditions (d .node)) (sample digital analogue events) ≡ 0

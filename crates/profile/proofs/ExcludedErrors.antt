@@ -19,7 +19,7 @@ use Rattle.profile.specs.Refusals.{accepted, conditions, refusal}
 use Rattle.profile.specs.DigitalInput.{InputLine, settle, sampleLine, reads, edge, writeInputLine}
 use Rattle.profile.specs.DigitalOutput.{OutputLine, writeOutputLine, moveOutputLine}
 use Rattle.profile.specs.Analogue.{moveAnalogueOutput}
-use Rattle.profile.specs.Machines.{Kind, nodeAlone, inputLine, outputLine, analogueInput, analogueOutput, Own, Machine, fresh, entryNames, writesSetting, writeNode, writeOwn, moveOwn, step}
+use Rattle.profile.specs.Machines.{Kind, nodeAlone, inputLine, outputLine, analogueInput, analogueOutput, Own, Machine, entryNames, writesSetting, writeNode, writeOwn, moveOwn, step}
 use Rattle.profile.specs.Replies.{Machines, answer, refuse, plain, reply}
 use Rattle.profile.specs.Lists.{fold}
 use Rattle.profile.proofs.StepLaws.{cond-same, refused-step, write-step, command-step, raise-step}
@@ -70,8 +70,7 @@ stop-by : (k : Kind) (i to : ℕ) (m : Machine k) (t : Bool) → accepted (m .no
 stop-by k i to m false e h = ap (λ (x : Machine k). x .own) (refused-step k i (command 2 to) m e)
 stop-by k i to m true e h =
     ap (λ (x : Machine k). x .own) (command-step k i 2 to m e)
-    ∙ ap (λ (b : Bool). cond b (fresh k) (moveOwn (fault (m .node)) (fault (commandNode 2 to (m .node))) k (m .own))) (and-false (addressed to (m .node)))
-    ∙ during k (commandNode 2 to (m .node)) (m .own) (fault (m .node)) h (stopped-fault to (m .node) h)
+    ∙ rw (and-false (addressed to (m .node))) (during k (commandNode 2 to (m .node)) (m .own) (fault (m .node)) h (stopped-fault to (m .node) h))
 
 pub no-setting-by-stop : (k : Kind) (i to : ℕ) (m : Machine k) → fault (m .node) ≡ true → step k i (command 2 to) m .own ≡ m .own
 no-setting-by-stop k i to m h = stop-by k i to m (accepted (m .node) (command 2 to)) refl h

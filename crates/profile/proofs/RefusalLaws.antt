@@ -12,7 +12,6 @@ use Rattle.profile.specs.declared.Node.{Node}
 use Rattle.profile.specs.declared.Entry.{Entry}
 use Rattle.profile.specs.declared.Entry.the-variants.{Absent, Constant, Window, Input, Output, Sources, Device}
 use Rattle.profile.specs.Bytes.{littleEndian}
-use Rattle.profile.specs.Nodes.{stopped}
 use Rattle.profile.specs.Entries.{entryOf, sizeOf, readOnly, notAllowed, aboveRange, belowRange}
 use Rattle.profile.specs.Calls.{Call, read, write}
 use Rattle.profile.specs.Refusals.{Conditions, conditions, Check, first, isAbsent, absence, entryChecks, accessChecks, valueChecks, writeRefusal, refusal, accepted}
@@ -75,37 +74,54 @@ access-sound has e size r = (λ h. omega arith, (absent-number e r, (λ h. omega
 pub value-sound : (e : Entry) (v : ℕ) → Sound (valueChecks e v)
 value-sound e v = (λ h. omega arith, (λ h. omega arith, (λ h. omega arith, tt)))
 
--- what an accepted write passed
-pub record Passed (n : Node) (e : Entry) (payload : List ℕ) : Type 0 where
-  pub running : stopped n ≡ false
+equal : (x y : ℕ) → x ≤ y → y ≤ x → x ≡ y
+equal x y h k = omega arith
+
+-- what data of a size passed where no access check holds
+pub record AccessPassed (has : Conditions) (e : Entry) (size : ℕ) : Type 0 where
+  pub running : has .stopped ≡ false
   pub there : isAbsent e ≡ false
   pub writable : readOnly e ≡ false
-  pub size : length payload ≡ sizeOf e
-  pub allowed : notAllowed e (littleEndian payload) ≡ false
-  pub not-above : aboveRange e (littleEndian payload) ≡ false
-  pub not-below : belowRange e (littleEndian payload) ≡ false
+  pub size-is : size ≡ sizeOf e
 
-passed : (n : Node) (e : Entry) (payload : List ℕ) → InRange e → first (accessChecks (conditions n) e (length payload) ++ valueChecks e (littleEndian payload)) ≡ 0
-    → Passed n e payload
-passed n e payload r z =
-    let v = none-holds (accessChecks (conditions n) e (length payload) ++ valueChecks e (littleEndian payload))
-    (λ h. omega arith, (absent-number e r, (λ h. omega arith, (λ h. omega arith, (λ h. omega arith, value-sound e (littleEndian payload)))))) z
-    in
+pub access-passed : (has : Conditions) (e : Entry) (size : ℕ) → InRange e → first (accessChecks has e size) ≡ 0 → AccessPassed has e size
+access-passed has e size r z =
+    let none = none-holds (accessChecks has e size) (access-sound has e size r) z in
     record {
-      running = v .0;
-      there = v .1 .0;
-      writable = v .1 .1 .0;
-      size = equal (length payload) (sizeOf e) (ltb-false (sizeOf e) (length payload) (v .1 .1 .1 .0)) (ltb-false (length payload) (sizeOf e) (v .1 .1 .1 .1 .0));
-      allowed = v .1 .1 .1 .1 .1 .0;
-      not-above = v .1 .1 .1 .1 .1 .1 .0;
-      not-below = v .1 .1 .1 .1 .1 .1 .1 .0;
-    }
-  where
-    equal : (x y : ℕ) → x ≤ y → y ≤ x → x ≡ y
-    equal x y h k = omega arith
+      running = none .0; there = none .1 .0; writable = none .1 .1 .0;
+      size-is = equal size (sizeOf e) (ltb-false (sizeOf e) size (none .1 .1 .1 .0)) (ltb-false size (sizeOf e) (none .1 .1 .1 .1 .0)) }
 
-pub write-passed : (n : Node) (index sub : ℕ) (payload : List ℕ) → accepted n (write index sub payload) ≡ true → Passed n (entryOf index sub) payload
+-- what a value passed where no value check holds
+pub record ValuePassed (e : Entry) (v : ℕ) : Type 0 where
+  pub allowed : notAllowed e v ≡ false
+  pub not-above : aboveRange e v ≡ false
+  pub not-below : belowRange e v ≡ false
+
+pub value-passed : (e : Entry) (v : ℕ) → first (valueChecks e v) ≡ 0 → ValuePassed e v
+value-passed e v z =
+    let none = none-holds (valueChecks e v) (value-sound e v) z in
+    record { allowed = none .0; not-above = none .1 .0; not-below = none .1 .1 .0 }
+
+-- an accepted write passed every check
+pub record Passed (has : Conditions) (e : Entry) (payload : List ℕ) : Type 0 where
+  pub access : AccessPassed has e (length payload)
+  pub value : ValuePassed e (littleEndian payload)
+
+-- where the whole table finds nothing, so does each of its two parts
+parts : (xs ys : List Check) → Sound xs → first (xs ++ ys) ≡ 0 → (first xs ≡ 0) × (first ys ≡ 0)
+parts [] ys s e = (refl, e)
+parts (x ∷ xs) ys s e =
+    let p = none-by (x .holds) (x .number) (first (xs ++ ys)) (s .0) e in
+    let q = parts xs ys (s .1) (p .1) in
+    (ap (λ (b : Bool). cond b (x .number) (first xs)) (p .0) ∙ q .0, q .1)
+
+pub write-passed : (n : Node) (index sub : ℕ) (payload : List ℕ) → accepted n (write index sub payload) ≡ true → Passed (conditions n) (entryOf index sub) payload
 unfolding refusal writeRefusal
 write-passed n index sub payload h =
-    passed n (entryOf index sub) payload (in-range index sub)
-    (eqb-true (first (accessChecks (conditions n) (entryOf index sub) (length payload) ++ valueChecks (entryOf index sub) (littleEndian payload))) 0 h)
+    let e = entryOf index sub in
+    let access = accessChecks (conditions n) e (length payload) in
+    let value = valueChecks e (littleEndian payload) in
+    let p = parts access value (access-sound (conditions n) e (length payload) (in-range index sub)) (eqb-true (first (access ++ value)) 0 h) in
+    record {
+      access = access-passed (conditions n) e (length payload) (in-range index sub) (p .0);
+      value = value-passed e (littleEndian payload) (p .1) }
