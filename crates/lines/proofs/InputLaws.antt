@@ -12,7 +12,7 @@ use Rattle.profile.specs.DigitalInput.{InputLine, settle, sampleLine, edge}
 use Rattle.profile.proofs.BitLaws.{gather-bits}
 use Rattle.lines.specs.declared.Row.{Row}
 use Rattle.lines.specs.View.{lineAt, rowAt, inputAt, outputAt}
-use Rattle.lines.specs.Promises.{Lined, rowSet, RowOf, Joins, Picks, Sampled}
+use Rattle.lines.specs.Promises.{Lined, rowSet, RowOf, Joins, Picks, Sampled, settledAt}
 use Rattle.lines.proofs.ColumnLaws.{input-of, output-of}
 
 -- ---- the settled bit and the count
@@ -53,13 +53,6 @@ steps false true true true true p any lh hl = (refl, refl, refl)
 steps false true true true false p any lh hl = (refl, refl, refl)
 steps false true true false true p any lh hl = (refl, refl, refl)
 steps false true true false false p any lh hl = (refl, refl, refl)
-
--- line i of row a after the sample
-abbrev pub settledAt : List ℕ → Row → ℕ → ℕ → Bool
-settledAt words new a i =
-    cond (eqb a 13) (bitAt (sampleLine (rowAt new i) (inputAt words i) .count) 1)
-    (cond (eqb a 12) (bitAt (sampleLine (rowAt new i) (inputAt words i) .count) 0)
-    (cond (eqb a 0) (sampleLine (rowAt new i) (inputAt words i) .settled) (lineAt words a i)))
 
 pub settles : {words o0 o12 out : List ℕ} {s f on c0 c1 differs both changes counts high f′ c0′ : Row}
     → RowOf words 0 f → RowOf words 2 on → RowOf words 12 c0 → Joins flip s f differs

@@ -16,7 +16,7 @@ use Rattle.profile.proofs.BitLaws.{bit-xor}
 use Rattle.profile.proofs.ListLaws.{bytes-cong}
 use Rattle.lines.specs.declared.Row.{Row}
 use Rattle.lines.specs.View.{lineAt, rowAt, window, inputAt, outputAt}
-use Rattle.lines.specs.Promises.{Lined, written, masked, rowSet, RowOf, Joins, Picks, Written, Moved, Driven}
+use Rattle.lines.specs.Promises.{Lined, written, masked, rowSet, RowOf, Joins, Picks, Written, Moved, Driven, drivenAt}
 use Rattle.lines.proofs.WindowLaws.{both, window-bit}
 use Rattle.lines.proofs.RowLaws.{every, none, every-line, no-line}
 use Rattle.lines.proofs.ColumnLaws.{input-of, output-of}
@@ -133,11 +133,6 @@ pub unmoved : (fault : Bool) (words : List ℕ) → Moved fault fault words word
 unfolding outputAt moveOutputLine
 unmoved true words = record { inputs = λ i h. refl; outputs = λ i h. refl }
 unmoved false words = record { inputs = λ i h. refl; outputs = λ i h. refl }
-
--- line i of row a after a source is driven, where a mask is 1 and inverted where polarity is 1
-abbrev pub drivenAt : List ℕ → Row → Row → Row → ℕ → ℕ → Bool
-drivenAt words mask source polarity a i =
-    cond (eqb a 11 && rowAt mask i) (flip (rowAt source i) (rowAt polarity i)) (lineAt words a i)
 
 drives-by : (words : List ℕ) (a i : ℕ) (t m x : Bool) → eqb a 11 ≡ t
     → cond t (cond m x (lineAt words 11 i)) (lineAt words a i) ≡ cond (t && m) x (lineAt words a i)

@@ -5,7 +5,7 @@ use mathlib.Core.Bool.{Bool, cond, _&&_}
 use mathlib.Core.List.{List}
 use Prim.Native.Nat.{ℕ, _+_, _*_, _/_, _≤_, _<_}
 use lib.Dec.{eqb, ltb, leb}
-use Rattle.profile.specs.Bits.{bitAt, gather}
+use Rattle.profile.specs.Bits.{bitAt, flip, gather}
 use Rattle.profile.specs.Bytes.{bytes, lineBit}
 use Rattle.profile.specs.Entries.{firstLine, inside, bitOf}
 use Rattle.profile.specs.DigitalInput.{InputLine, freshInputLine, sampleLine, edge, writeInputLine}
@@ -42,6 +42,18 @@ masked words a m w s v a′ i = cond (eqb a′ a && inside w s i && lineAt words
 -- line i of row a′ after row a is set
 unfoldable pub rowSet : List ℕ → ℕ → Row → ℕ → ℕ → Bool
 rowSet words a r a′ i = cond (eqb a′ a) (rowAt r i) (lineAt words a′ i)
+
+-- line i of row a after a sample: the settled bit and the two bits of the count
+abbrev pub settledAt : List ℕ → Row → ℕ → ℕ → Bool
+settledAt words new a i =
+    cond (eqb a 13) (bitAt (sampleLine (rowAt new i) (inputAt words i) .count) 1)
+    (cond (eqb a 12) (bitAt (sampleLine (rowAt new i) (inputAt words i) .count) 0)
+    (cond (eqb a 0) (sampleLine (rowAt new i) (inputAt words i) .settled) (lineAt words a i)))
+
+-- line i of row a after a source is driven, where a mask is 1 and inverted where polarity is 1
+abbrev pub drivenAt : List ℕ → Row → Row → Row → ℕ → ℕ → Bool
+drivenAt words mask source polarity a i =
+    cond (eqb a 11 && rowAt mask i) (flip (rowAt source i) (rowAt polarity i)) (lineAt words a i)
 
 -- r is row a
 pub record RowOf (words : List ℕ) (a : ℕ) (r : Row) : Type 0 where

@@ -3,14 +3,9 @@ use crate::Lines;
 use crate::Row;
 use crate::SampledLines;
 ghost use mathlib.Core.Path.{_≡_};
-ghost use mathlib.Core.Bool.{cond, _&&_};
 ghost use Prim.Native.Nat.{_^_, _≤_, _<_};
-ghost use lib.Dec.{eqb};
 ghost use lib.ListN.{length};
-ghost use Rattle.profile.specs.Bits.{bitAt, flip};
-ghost use Rattle.profile.specs.DigitalInput.{sampleLine};
-ghost use Rattle.lines.specs.View.{lineAt, rowAt, inputAt};
-ghost use Rattle.lines.specs.Promises.{Covers, Lined, Fresh, Read, Written, Sampled, Moved, Driven};
+ghost use Rattle.lines.specs.Promises.{Covers, Lined, Fresh, Read, Written, Sampled, Moved, Driven, settledAt, drivenAt};
 
 // The rows by name: document 01's table in its order, with the settled bit in row 0; then the driven bit and the count's two bits.
 const SETTLED: usize = 0;
@@ -132,10 +127,7 @@ impl Lines {
 
     // The settled bits and the counts after a sample: a line that differs changes where its filter is off or its count is 2 or more, else it counts on.
     fn settled(self, new: Row) -> Lines
-        ensures { λ r. ⌜ Lined (r .words) (λ a i.
-            cond (eqb a 13) (bitAt (sampleLine (rowAt new i) (inputAt (self .words) i) .count) 1)
-            (cond (eqb a 12) (bitAt (sampleLine (rowAt new i) (inputAt (self .words) i) .count) 0)
-            (cond (eqb a 0) (sampleLine (rowAt new i) (inputAt (self .words) i) .settled) (lineAt (self .words) a i)))) ⌝ }
+        ensures { λ r. ⌜ Lined (r .words) (settledAt (self .words) new) ⌝ }
     {
         let settled = self.row(SETTLED);
         let filter = self.row(FILTER);
@@ -176,7 +168,7 @@ impl Lines {
 
     // Where the mask is 1 the driven lines become the source, inverted where polarity is 1.
     fn driving(self, mask: Row, source: Row, polarity: Row) -> Lines
-        ensures { λ r. ⌜ Lined (r .words) (λ a i. cond (eqb a 11 && rowAt mask i) (flip (rowAt source i) (rowAt polarity i)) (lineAt (self .words) a i)) ⌝ }
+        ensures { λ r. ⌜ Lined (r .words) (drivenAt (self .words) mask source polarity) ⌝ }
     {
         let driven = self.row(DRIVEN);
         self.with_row(DRIVEN, mask.pick(source.xor(polarity), driven))
