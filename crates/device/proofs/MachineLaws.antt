@@ -20,8 +20,8 @@ use Rattle.profile.specs.Bits.{bitAt}
 use Rattle.profile.specs.Nodes.{freshNode, fault}
 use Rattle.profile.specs.Entries.{inside, bitOf}
 use Rattle.profile.specs.DigitalInput.{InputLine, writeInputLine}
-use Rattle.profile.specs.DigitalOutput.{OutputLine, writeOutputLine}
-use Rattle.profile.specs.Analogue.{freshAnalogueInput, writeAnalogueInput, freshAnalogueOutput, writeAnalogueOutput}
+use Rattle.profile.specs.DigitalOutput.{OutputLine, writeOutputLine, moveOutputLine}
+use Rattle.profile.specs.Analogue.{freshAnalogueInput, writeAnalogueInput, freshAnalogueOutput, writeAnalogueOutput, moveAnalogueOutput}
 use Rattle.profile.specs.Machines.{Kind, nodeAlone, inputLine, outputLine, analogueInput, analogueOutput, count, Own, Machine, readsSources, writeNode, clearOwn}
 use Rattle.profile.specs.Replies.{Machines, freshMachines}
 use Rattle.profile.proofs.BitLaws.{bit-zero}
@@ -72,13 +72,15 @@ owns-same d r ls is os outputLine i = ap (λ (ws : List ℕ). outputAt ws i) ls
 owns-same d r ls is os analogueInput i = ap (λ (xs : List AnalogueInput). channel.inputOf xs i) is
 owns-same d r ls is os analogueOutput i = ap (λ (xs : List AnalogueOutput). channel.outputOf xs i) os
 
--- the node changed, and with it fault
-pub node-moved : (d r : the.Device) (n : Node) → r .node ≡ n → line.Moved (fault (d .node)) (fault n) (d .lines .words) (r .lines .words)
-    → r .inputs ≡ d .inputs → channel.AllMoved (fault (d .node)) (fault n) (d .outputs) (r .outputs) → Same (machinesOf r) (moved n d)
-node-moved d r n e l is os =
+-- the node changed, and with it fault: `before` and `after` are what the code found
+pub node-moved : (d r : the.Device) (n : Node) (before after : Bool) → before ≡ fault (d .node) → after ≡ fault n → r .node ≡ n
+    → line.Moved before after (d .lines .words) (r .lines .words) → r .inputs ≡ d .inputs → channel.AllMoved before after (d .outputs) (r .outputs) → Same (machinesOf r) (moved n d)
+node-moved d r n before after b a e l is os =
     by-kind (machinesOf r) (moved n d) (same-machine e refl)
-    (λ i h. same-machine e (l .inputs i h)) (λ i h. same-machine e (l .outputs i h))
-    (λ i h. same-machine e (ap (λ (xs : List AnalogueInput). channel.inputOf xs i) is)) (λ i h. same-machine e (os .channels i h))
+    (λ i h. same-machine e (l .inputs i h))
+    (λ i h. same-machine e (l .outputs i h ∙ ap₂ (λ (x y : Bool). moveOutputLine x y (outputAt (d .lines .words) i)) b a))
+    (λ i h. same-machine e (ap (λ (xs : List AnalogueInput). channel.inputOf xs i) is))
+    (λ i h. same-machine e (os .channels i h ∙ ap₂ (λ (x y : Bool). moveAnalogueOutput x y (channel.outputOf (d .outputs) i)) b a))
 
 -- ---- writes
 

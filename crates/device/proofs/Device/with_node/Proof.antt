@@ -20,11 +20,11 @@ move-all-requires c κs = search needs
 
 returns : tie.Need-returns
 returns c =
-    let s = c .before .before .before .before .before .before .before .args .self in
+    let d = c .before .before .before .before .before .before .before .args .self in
     let n = c .before .before .before .before .before .before .before .args .node in
-    node-moved s (record { node = n; lines = c .before .moved .result; inputs = s .inputs; outputs = c .move-all .result }) n refl
-    (rw (c .before .before .before .before .before .in-fault .ensures, c .before .before .before .before .in-fault2 .ensures) at (c .before .moved .ensures)) refl
-    (rw (c .before .before .before .before .before .in-fault .ensures, c .before .before .before .before .in-fault2 .ensures) at (c .move-all .ensures))
+    node-moved d (record { node = n; lines = c .before .moved .result; inputs = d .inputs; outputs = c .move-all .result }) n
+    (c .before .before .before .before .before .in-fault .result) (c .before .before .before .before .in-fault2 .result) (c .before .before .before .before .before .in-fault .ensures) (c .before .before .before .before .in-fault2 .ensures)
+    refl (c .before .moved .ensures) refl (c .move-all .ensures)
 
 pub with-node-spec : {M : Type 1} → statement M
 with-node-spec =
