@@ -1,0 +1,82 @@
+-- `answers::put_read` meets its contract.
+-- Assumes nothing.
+use Rattle.notation.specs.Answers.{readText}
+use Rattle.notation.proofs.AnswerLaws.{put-words}
+use Rattle.notation.specs.Texts.{Put, bytesText}
+use Rattle.notation.proofs.PutLaws.{put-then}
+use borrow.Author.Tests.{eq-eqb, ne-eqb}
+use Prim.Native.Nat.{ℕ, _-_}
+use mathlib.Core.List.{List}
+use mathlib.Core.Path.{subst}
+use borrow.Author.Needs.{needs}
+use Rattle.notation.proofs.answers.put_read.Statement.{statement}
+use Rattle.notation.proofs.answers.put_read.Tie as tie
+
+put-plain-requires : tie.Need-put-plain-requires
+put-plain-requires c κs = search needs
+
+same-length : tie.Need-same-length
+same-length c = search needs
+
+returns : tie.Need-returns
+unfolding readText
+returns c = rw (ne-eqb ((c .before .before .before .before .before .before) .args .number) 0 (c .before .before .before .before .if1 .taken)) (c .before .before .put-plain .ensures)
+
+cast-t16 : tie.Need-cast-t16
+cast-t16 c = search needs
+
+cast-t19 : tie.Need-cast-t19
+cast-t19 c = search needs
+
+cast-t22 : tie.Need-cast-t22
+cast-t22 c = search needs
+
+cast-t24 : tie.Need-cast-t24
+cast-t24 c = search needs
+
+slice-aggregate-put-all : tie.Need-slice-aggregate-put-all
+slice-aggregate-put-all c = search needs
+
+put-all-requires : tie.Need-put-all-requires
+put-all-requires c κs = search needs
+
+slice-aggregate-first-bytes : tie.Need-slice-aggregate-first-bytes
+slice-aggregate-first-bytes c = search needs
+
+first-bytes-requires : tie.Need-first-bytes-requires
+first-bytes-requires c κs = search needs
+
+put-bytes-requires : tie.Need-put-bytes-requires
+put-bytes-requires c κs = search needs
+
+end-access-requires : tie.Need-end-access-requires
+end-access-requires c κs = search needs
+
+same-length-2 : tie.Need-same-length-2
+same-length-2 c = search needs
+
+returns-2 : tie.Need-returns-2
+unfolding readText
+returns-2 c =
+    rw (eq-eqb ((c .before .before .before .before .before .before .before .before .before .before .before .before .before .before .before .before .before) .args .number) 0 (c .before .before .before .before .before .before .before .before .before .before .before .before .before .before .before .if1 .left))
+    (put-words (put-then (c .before .before .before .before .before .before .before .before .before .before .before .before .put-all .ensures) (subst (λ (l : List ℕ). Put (bytesText l) (c .before .before .before .before .before .before .before .before .before .before .before .before .put-all .last .0) (c .before .before .before .before .before .before .before .before .before .before .before .before .put-all .result) (c .before .before .before .before .before .before .put-bytes .last .0) (c .before .before .before .before .before .before .put-bytes .result)) (c .before .before .before .before .before .before .before .first-bytes .ensures) (c .before .before .before .before .before .before .put-bytes .ensures))) (c .before .before .end-access .ensures))
+
+pub put-read-spec : {M : Type 1} → statement M
+put-read-spec =
+    tie.close
+    (tie.spec
+    put-plain-requires
+    same-length
+    returns
+    cast-t16
+    cast-t19
+    cast-t22
+    cast-t24
+    slice-aggregate-put-all
+    put-all-requires
+    slice-aggregate-first-bytes
+    first-bytes-requires
+    put-bytes-requires
+    end-access-requires
+    same-length-2
+    returns-2)

@@ -1,0 +1,59 @@
+-- `answers::put_unknown` meets its contract.
+-- Assumes nothing.
+use Rattle.notation.specs.Answers.{unknownText}
+use Rattle.notation.proofs.AnswerLaws.{words-only, words-then, put-words}
+use Rattle.notation.proofs.PutLaws.{put-then}
+use Prim.Native.Nat.{_-_}
+use borrow.Author.Needs.{needs}
+use Rattle.notation.proofs.answers.put_unknown.Statement.{statement}
+use Rattle.notation.proofs.answers.put_unknown.Tie as tie
+
+slice-aggregate-put-all : tie.Need-slice-aggregate-put-all
+slice-aggregate-put-all c = search needs
+
+put-all-requires : tie.Need-put-all-requires
+put-all-requires c κs = search needs
+
+put-decimal-requires : tie.Need-put-decimal-requires
+put-decimal-requires c κs = search needs
+
+slice-aggregate-put-all-2 : tie.Need-slice-aggregate-put-all-2
+slice-aggregate-put-all-2 c = search needs
+
+put-all-requires-2 : tie.Need-put-all-requires-2
+put-all-requires-2 c κs = search needs
+
+slice-aggregate-put-all-3 : tie.Need-slice-aggregate-put-all-3
+slice-aggregate-put-all-3 c = search needs
+
+put-all-requires-3 : tie.Need-put-all-requires-3
+put-all-requires-3 c κs = search needs
+
+put-expected-requires : tie.Need-put-expected-requires
+put-expected-requires c κs = search needs
+
+put-requires : tie.Need-put-requires
+put-requires c κs = search needs
+
+same-length : tie.Need-same-length
+same-length c = search needs
+
+returns : tie.Need-returns
+unfolding unknownText
+returns c = put-words (put-then (put-then (c .before .before .before .before .before .before .before .before .before .before .before .before .before .before .before .before .before .before .before .before .before .before .before .before .put-all .ensures) (c .before .before .before .before .before .before .before .before .before .before .before .before .before .before .before .before .before .before .before .before .put-decimal .ensures)) (c .before .before .before .before .before .before .before .before .before .before .before .before .before .before .before .put-all2 .ensures)) (words-then (words-only (c .before .before .before .before .before .before .before .before .before .before .put-all3 .ensures)) (words-then (c .before .before .before .before .before .before .put-expected .ensures) (words-only (c .before .before .put .ensures))))
+
+pub put-unknown-spec : {M : Type 1} → statement M
+put-unknown-spec =
+    tie.close
+    (tie.spec
+    slice-aggregate-put-all
+    put-all-requires
+    put-decimal-requires
+    slice-aggregate-put-all-2
+    put-all-requires-2
+    slice-aggregate-put-all-3
+    put-all-requires-3
+    put-expected-requires
+    put-requires
+    same-length
+    returns)

@@ -1,0 +1,49 @@
+-- `text::put_places` meets its contract, a bit after the other.
+-- Assumes nothing.
+use Rattle.notation.proofs.TextLaws.{Placing, placing-none, placing-more, placing-all}
+use borrow.Author.Needs.{needs}
+use native.Mathlib.Omega.{arith}
+use Prim.Native.Nat.{_-_, _≤_}
+use Rattle.notation.proofs.text.put_places.Statement.{statement}
+use Rattle.notation.proofs.text.put_places.Tie as tie
+
+abbrev Inv-loop : tie.InvT-loop
+Inv-loop out₀ at bits next₀ rest₀ n₀ out next rest n = (n ≤ 17) × (1 ≤ n) × Placing bits out₀ at n rest out next
+
+abbrev μ-loop : tie.MeasureT-loop
+μ-loop out₀ at bits next₀ rest₀ n₀ out next rest n = 17 - n
+
+loop-holds : tie.Need-loop-holds Inv-loop μ-loop
+loop-holds c = (omega arith, omega arith, placing-none _ _ _)
+
+put-place-requires : tie.Need-put-place-requires Inv-loop μ-loop
+put-place-requires c κs = search needs
+
+add-n : tie.Need-add-n Inv-loop μ-loop
+add-n c = omega arith
+
+loop-less : tie.Need-loop-less Inv-loop μ-loop
+loop-less c = omega arith
+
+loop-again : tie.Need-loop-again Inv-loop μ-loop
+loop-again c = (omega arith, omega arith, placing-more (c .before .before .before .before .loop-test .taken) (c .before .before .before .before .before .loop .inv .2) (c .before .before .put-place .ensures))
+
+same-length : tie.Need-same-length Inv-loop μ-loop
+same-length c = c .before .loop .inv .2 .put .kept
+
+returns : tie.Need-returns Inv-loop μ-loop
+returns c = placing-all (c .loop-test .left) (c .before .loop .inv .2)
+
+pub put-places-spec : {M : Type 1} → statement M
+put-places-spec =
+    tie.close
+    (tie.spec
+    Inv-loop
+    μ-loop
+    loop-holds
+    put-place-requires
+    add-n
+    loop-less
+    loop-again
+    same-length
+    returns)

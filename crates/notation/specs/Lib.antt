@@ -1,0 +1,5 @@
+pub mod Words
+pub mod Numbers
+pub mod Texts
+pub mod Items
+pub mod Answers

@@ -1,0 +1,55 @@
+-- The words of a line: runs of bytes between spaces.
+-- Assumes nothing.
+use mathlib.Core.Path.{_≡_}
+use mathlib.Core.Bool.{Bool, true, false, not, cond, _&&_}
+use mathlib.Core.List.{List, [], _∷_}
+use Prim.Native.Nat.{ℕ, zero, suc, _+_, _-_, _≤_, _<_}
+use lib.Dec.{eqb, ltb}
+use lib.ListN.{length, take, drop, getD}
+
+-- how many elements in front are b, or, with `same` false, are not
+abbrev pub run : Bool → ℕ → List ℕ → ℕ
+run same b [] = 0
+run true b (x ∷ xs) = cond (eqb x b) (suc (run true b xs)) 0
+run false b (x ∷ xs) = cond (eqb x b) 0 (suc (run false b xs))
+
+-- spaces in front
+abbrev pub spaces : List ℕ → ℕ
+spaces line = run true 32 line
+
+-- where the first word ends
+unfoldable pub wordEnd : List ℕ → ℕ
+wordEnd line = spaces line + run false 32 (drop (spaces line) line)
+
+-- the bytes between the spaces in front and the next space; none where only spaces are left
+unfoldable pub firstWord : List ℕ → List ℕ
+firstWord line = take (run false 32 (drop (spaces line) line)) (drop (spaces line) line)
+
+unfoldable pub afterWord : List ℕ → List ℕ
+afterWord line = drop (wordEnd line) line
+
+-- only spaces are left
+abbrev pub isBlank : List ℕ → Bool
+isBlank line = eqb (length (firstWord line)) 0
+
+abbrev pub lastByte : List ℕ → ℕ
+lastByte line = getD line (length line - 1) 0
+
+-- a carriage return at the end is passed over
+unfoldable pub withoutReturn : List ℕ → List ℕ
+withoutReturn line = cond (eqb (lastByte line) 13) (take (length line - 1) line) line
+
+-- a line without its comment, from a `#` on, and without a carriage return at its end
+unfoldable pub contentOf : List ℕ → List ℕ
+contentOf line = take (run false 35 (withoutReturn line)) (withoutReturn line)
+
+-- n is where the first word ends; it lies within the line, and past a word that is not empty
+pub record WordEnd (line : List ℕ) (n : ℕ) : Type 0 where
+  pub is : n ≡ wordEnd line
+  pub within : n ≤ length line
+  pub past : length (firstWord line) ≤ n
+
+-- a count of elements in front of a list
+pub record InFront (same : Bool) (b : ℕ) (line : List ℕ) (n : ℕ) : Type 0 where
+  pub is : n ≡ run same b line
+  pub within : n ≤ length line
