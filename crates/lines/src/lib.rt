@@ -10,6 +10,7 @@ pub struct Row {
 }
 
 // Fourteen rows, two words each.
+#[repr(C)]
 pub struct Lines {
     pub words: [u64; 28],
 }

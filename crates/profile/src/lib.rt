@@ -56,6 +56,7 @@ pub enum Entry {
 }
 
 // The settings and the state of an analogue input.
+#[repr(C)]
 pub struct AnalogueInput {
     // 6421
     pub selection: u8,
@@ -78,6 +79,7 @@ pub struct AnalogueInput {
 }
 
 // The settings and the state of an analogue output.
+#[repr(C)]
 pub struct AnalogueOutput {
     // 6443
     pub mode: bool,

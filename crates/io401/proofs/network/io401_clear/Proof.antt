@@ -1,0 +1,31 @@
+-- `network::io401_clear` meets its contract: it is the device's clear.
+-- Assumes nothing.
+use Rattle.io401.proofs.Handing.{handed}
+use mathlib.Core.Path.{sym}
+use borrow.Author.Needs.{needs}
+use Rattle.io401.proofs.network.io401_clear.Statement.{statement}
+use Rattle.io401.proofs.network.io401_clear.Tie as tie
+
+device-of-requires : tie.Need-device-of-requires
+device-of-requires c κs = search needs
+
+cause-of-requires : tie.Need-cause-of-requires
+cause-of-requires c κs = search needs
+
+clear-requires : tie.Need-clear-requires
+clear-requires c κs = search needs
+
+image-of-requires : tie.Need-image-of-requires
+image-of-requires c κs = search needs
+
+returns : tie.Need-returns
+returns c =
+    let called = c .before .before in
+    let converted = called .before .before in
+    rw (sym (called .before .cause-of .ensures))
+    (handed _ _ _ _ _ _ (converted .device-of .ensures) (c .image-of .ensures) (called .clear .ensures))
+
+pub io401-clear-spec : {M : Type 1} → statement M
+io401-clear-spec =
+    tie.close
+    (tie.spec device-of-requires cause-of-requires clear-requires image-of-requires returns)

@@ -1,0 +1,106 @@
+/*
+ * A main loop over the device: a set-up list, then a tick for each row of the table below with a
+ * sample, its events and the driven outputs, and a communication loss on the way.
+ */
+#include <io401.h>
+#include <stdio.h>
+
+typedef struct setting {
+    uint16_t index;
+    uint8_t sub;
+    uint32_t value;
+    size_t size;
+} setting;
+
+/* Written while the node is pre-operational. The last one is refused: inputs are only read. */
+static const setting SET_UP[] = {
+    {0x6003, 1, 0x01, 1},   /* line 1 is filtered: three samples that agree */
+    {0x6006, 1, 0x03, 1},   /* of lines 1 to 8 only 1 and 2 report any change .. */
+    {0x6007, 1, 0x04, 1},   /* .. and line 3 a rising edge */
+    {0x6423, 0, 1, 1},      /* analogue events are on */
+    {0x6421, 1, 0x04, 1},   /* channel 1 reports a move by more than .. */
+    {0x6426, 1, 10, 4},     /* .. 10 */
+    {0x6200, 1, 0x0F, 1},   /* outputs 1 to 4 are on */
+    {0x6202, 1, 0x80, 1},   /* output 8 is inverted */
+    {0x6206, 1, 0xFE, 1},   /* output 1 holds its state in a fault */
+    {0x6207, 1, 0x10, 1},   /* output 5 is on in a fault */
+    {0x6411, 1, 1000, 2},   /* analogue output 1 .. */
+    {0x6444, 1, 0xFFFFFFFB, 4}, /* .. goes to -5 in a fault */
+    {0x1029, 1, 0, 1},      /* a lost bus takes the node to pre-operational */
+    {0x6000, 1, 0x01, 1},
+};
+
+typedef struct tick {
+    uint8_t lines;     /* what lines 1 to 8 show */
+    int16_t channel;   /* what channel 1 shows */
+    int16_t bus;       /* -1 the bus is lost, 1 it is back and the node is started again */
+} tick;
+
+static const tick TICKS[] = {
+    {0x00, 0, 0}, {0x07, 10, 0}, {0x07, 11, 0}, {0x07, 20, 0},
+    {0x03, 22, -1}, {0x01, 40, 0}, {0x05, 40, 1}, {0x05, 51, 0},
+};
+
+static void show_entry(io401_device *device, uint16_t index, uint8_t sub)
+{
+    uint32_t value;
+    size_t size;
+    uint32_t number = io401_do_read(device, index, sub, &value, &size);
+    printf("  %04X:%u number %08lX value %lX size %zu\n", index, sub, (unsigned long)number, (unsigned long)value, size);
+}
+
+static void set_up(io401_device *device)
+{
+    for (size_t n = 0; n < sizeof SET_UP / sizeof SET_UP[0]; n++) {
+        const setting *s = &SET_UP[n];
+        uint32_t number = io401_do_write_value(device, s->index, s->sub, s->value, s->size);
+        if (number != 0)
+            printf("set-up: %04X:%u refused with %08lX\n", s->index, s->sub, (unsigned long)number);
+    }
+}
+
+static void follow_bus(io401_device *device, int16_t bus)
+{
+    if (bus < 0)
+        io401_do_raise(device, IO401_COMMUNICATION_LOSS);
+    if (bus > 0) {
+        io401_do_clear(device, IO401_COMMUNICATION_LOSS);
+        io401_do_command(device, IO401_START, IO401_ALL_NODES);
+    }
+}
+
+static void run_tick(io401_device *device, size_t at)
+{
+    const uint8_t digital[IO401_LINE_BYTES] = {TICKS[at].lines};
+    const int16_t analogue[IO401_ANALOGUE_INPUTS] = {TICKS[at].channel};
+    uint8_t events[IO401_LINE_BYTES];
+    uint16_t analogue_events;
+    uint8_t lines[IO401_LINE_BYTES];
+    int16_t channels[IO401_ANALOGUE_OUTPUTS];
+
+    follow_bus(device, TICKS[at].bus);
+    io401_do_sample(device, digital, analogue, events, &analogue_events);
+    io401_do_drive(device, lines, channels);
+    printf("tick %zu: state %u events %02X %04X drives %02X %d\n", at, device->node.state, events[0], analogue_events,
+           lines[0], channels[0]);
+}
+
+int main(void)
+{
+    io401_device device;
+    if (io401_do_create(&device, 5) != 0)
+        return 1;
+    set_up(&device);
+    io401_do_command(&device, IO401_START, 5);
+    for (size_t at = 0; at < sizeof TICKS / sizeof TICKS[0]; at++)
+        run_tick(&device, at);
+    printf("after the last tick:\n");
+    show_entry(&device, 0x6000, 1);
+    show_entry(&device, 0x6401, 1);
+    show_entry(&device, 0x6422, 1);
+    show_entry(&device, 0x6422, 1);
+    show_entry(&device, 0x6200, 1);
+    io401_do_command(&device, IO401_STOP, 5);
+    show_entry(&device, 0x6200, 1);
+    return 0;
+}
