@@ -1,0 +1,256 @@
+//! Random lists of calls: any arguments, wrong lengths and refused calls among them, weighted so
+//! that most calls do something. The same seed makes the same list.
+
+use crate::calls::{Call, Cause, Lent};
+
+/// SplitMix64.
+pub struct Random(u64);
+
+impl Random {
+    pub fn new(seed: u64) -> Random {
+        Random(seed)
+    }
+
+    pub fn next(&mut self) -> u64 {
+        self.0 = self.0.wrapping_add(0x9E37_79B9_7F4A_7C15);
+        let mut z = self.0;
+        z = (z ^ z >> 30).wrapping_mul(0xBF58_476D_1CE4_E5B9);
+        z = (z ^ z >> 27).wrapping_mul(0x94D0_49BB_1331_11EB);
+        z ^ z >> 31
+    }
+
+    pub fn below(&mut self, bound: usize) -> usize {
+        (self.next() % bound as u64) as usize
+    }
+
+    /// True in `percent` of a hundred cases.
+    pub fn chance(&mut self, percent: usize) -> bool {
+        self.below(100) < percent
+    }
+
+    fn pick<T: Copy>(&mut self, from: &[T]) -> T {
+        from[self.below(from.len())]
+    }
+}
+
+/// An object of the dictionary: index, last sub-index, size of an entry in bytes.
+#[derive(Clone, Copy)]
+pub struct Object {
+    pub index: u16,
+    pub last: u8,
+    pub size: usize,
+}
+
+/// Every object of document 01.
+pub fn objects() -> Vec<Object> {
+    let mut all = Vec::new();
+    let one_bit = [0x6020, 0x6030, 0x6038, 0x6050, 0x6060, 0x6070, 0x6220, 0x6240, 0x6250, 0x6260, 0x6270];
+    let wider = [0x00, 0x02, 0x03, 0x06, 0x07, 0x08, 0x200, 0x202, 0x206, 0x207, 0x208];
+    for row in 0..11 {
+        all.push(Object { index: one_bit[row], last: 128, size: 1 });
+        all.push(Object { index: 0x6000 + wider[row], last: 16, size: 1 });
+        all.push(Object { index: 0x6100 + wider[row], last: 8, size: 2 });
+        all.push(Object { index: 0x6120 + wider[row], last: 4, size: 4 });
+    }
+    for (index, size) in
+        [(0x6401, 2), (0x6421, 1), (0x6424, 4), (0x6425, 4), (0x6426, 4), (0x6427, 4), (0x6428, 4)]
+    {
+        all.push(Object { index, last: 16, size });
+    }
+    for (index, size) in [(0x6411, 2), (0x6443, 1), (0x6444, 4)] {
+        all.push(Object { index, last: 8, size });
+    }
+    for (index, last, size) in
+        [(0x1000, 0, 4), (0x1001, 0, 1), (0x1029, 1, 1), (0x6005, 0, 1), (0x6422, 1, 4), (0x6423, 0, 1)]
+    {
+        all.push(Object { index, last, size });
+    }
+    all
+}
+
+/// What a list is drawn from; it remembers the lines and channels last sampled, so that few change.
+pub struct Source {
+    random: Random,
+    objects: Vec<Object>,
+    number: u8,
+    lines: [u8; 16],
+    channels: [i16; 16],
+}
+
+impl Source {
+    pub fn new(seed: u64) -> Source {
+        let mut random = Random::new(seed);
+        let number = if random.chance(5) { random.next() as u8 } else { 1 + random.below(127) as u8 };
+        Source { random, objects: objects(), number, lines: [0; 16], channels: [0; 16] }
+    }
+
+    /// The argument of create.
+    pub fn number(&self) -> u8 {
+        self.number
+    }
+
+    pub fn call(&mut self) -> Call {
+        match self.random.below(100) {
+            0..30 => self.write(),
+            30..48 => self.read(),
+            48..80 => self.sample(),
+            80..87 => self.command(),
+            87..90 => Call::Raise(self.cause()),
+            90..94 => Call::Clear(self.cause()),
+            _ => self.drive(),
+        }
+    }
+
+    pub fn cause(&mut self) -> Cause {
+        self.random.pick(&[Cause::InternalFailure, Cause::CommunicationLoss])
+    }
+
+    fn bytes(&mut self) -> [u8; 24] {
+        std::array::from_fn(|_| self.random.next() as u8)
+    }
+
+    fn numbers(&mut self) -> [i16; 24] {
+        std::array::from_fn(|_| self.random.next() as i16)
+    }
+
+    /// Mostly the right length, else any.
+    fn length(&mut self, right: usize) -> usize {
+        match self.random.below(50) {
+            0 => self.random.below(25),
+            1 => right + 1,
+            2 => right - 1,
+            _ => right,
+        }
+    }
+
+    fn entry(&mut self) -> (Object, u8) {
+        // Digital, analogue, device-wide, in the order of `objects`.
+        let at = match self.random.below(10) {
+            0..5 => self.random.below(44),
+            5..9 => 44 + self.random.below(10),
+            _ => 54 + self.random.below(6),
+        };
+        let mut object = self.objects[at];
+        if self.random.chance(3) {
+            object.index = object.index.wrapping_add(self.random.pick(&[1, 0x10, 0x100, 0xFFFF]));
+        } else if self.random.chance(2) {
+            object.index = self.random.next() as u16;
+        }
+        let sub = match self.random.below(50) {
+            0 => self.random.next() as u8,
+            1 => object.last + 1,
+            2 => 0,
+            _ if object.last == 0 => 0,
+            _ => 1 + self.random.below(usize::from(object.last)) as u8,
+        };
+        (object, sub)
+    }
+
+    pub fn read(&mut self) -> Call {
+        let (object, sub) = self.entry();
+        Call::Read { index: object.index, sub }
+    }
+
+    pub fn write(&mut self) -> Call {
+        let (object, sub) = self.entry();
+        let value = self.value(object);
+        let mut data = self.bytes();
+        data[..4].copy_from_slice(&value.to_le_bytes());
+        let length = if self.random.chance(94) {
+            object.size
+        } else if self.random.chance(80) {
+            self.random.below(6)
+        } else {
+            self.random.below(25)
+        };
+        Call::Write { index: object.index, sub, data: Lent::new(data, length) }
+    }
+
+    fn value(&mut self, object: Object) -> u32 {
+        if self.random.chance(3) {
+            return self.random.next() as u32;
+        }
+        match object.index {
+            0x1029 => self.random.pick(&[0, 0, 1, 1, 2, 2, 3]),
+            0x6005 | 0x6423 => self.random.pick(&[1, 1, 1, 1, 1, 1, 0, 2]),
+            0x6443 => self.random.pick(&[0, 0, 1, 1, 2]),
+            0x6421 => {
+                let one = 1 << self.random.below(5);
+                let any = self.random.below(40) as u32;
+                self.random.pick(&[one, one, any])
+            }
+            0x6411 | 0x6424..=0x6428 | 0x6444 => self.number_near_a_bound(),
+            0x6020..=0x607F | 0x6220..=0x627F => self.random.pick(&[0, 0, 0, 1, 1, 1, 2]),
+            _ => {
+                let any = self.random.next() as u32;
+                self.random.pick(&[any, any, any, 0, u32::MAX, 1 << (any % 32)])
+            }
+        }
+    }
+
+    fn number_near_a_bound(&mut self) -> u32 {
+        let any = self.random.next() as u32;
+        let small = any % 25;
+        let bounds = [
+            0,
+            1,
+            32_766,
+            32_767,
+            32_768,
+            65_534,
+            65_535,
+            65_536,
+            u32::MAX,
+            i32::MAX as u32,
+            i32::MIN as u32,
+        ];
+        let bound = self.random.pick(&bounds);
+        let half = any as i16 as i32 as u32;
+        self.random.pick(&[bound, bound.wrapping_neg(), small, small.wrapping_neg(), half, any])
+    }
+
+    pub fn sample(&mut self) -> Call {
+        for _ in 0..self.random.pick(&[0, 0, 1, 2, 4, 200]) {
+            let line = self.random.below(128);
+            self.lines[line / 8] ^= 1 << (line % 8);
+        }
+        for _ in 0..self.random.pick(&[0, 1, 2, 16]) {
+            let channel = self.random.below(16);
+            let any = self.random.next();
+            let step = (any % 41) as i16 - 20;
+            let near = self.channels[channel].wrapping_add(step);
+            let bound = self.random.pick(&[i16::MIN, i16::MIN + 1, -1, 0, 1, i16::MAX - 1, i16::MAX]);
+            self.channels[channel] = self.random.pick(&[near, near, bound, any as i16]);
+        }
+        let mut digital = self.bytes();
+        digital[..16].copy_from_slice(&self.lines);
+        let mut analogue = self.numbers();
+        analogue[..16].copy_from_slice(&self.channels);
+        Call::Sample {
+            digital: Lent::new(digital, self.length(16)),
+            analogue: Lent::new(analogue, self.length(16)),
+            events: Lent::new(self.bytes(), self.length(16)),
+        }
+    }
+
+    pub fn command(&mut self) -> Call {
+        let code = match self.random.below(20) {
+            0..10 => 1,
+            10..12 => 2,
+            12..15 => 128,
+            15 => 129,
+            16..19 => 130,
+            _ => self.random.next() as u8,
+        };
+        let any = self.random.next() as u8;
+        let node = self.random.pick(&[0, 0, self.number, self.number, self.number, any & 127, any]);
+        Call::Command { code, node }
+    }
+
+    pub fn drive(&mut self) -> Call {
+        Call::Drive {
+            lines: Lent::new(self.bytes(), self.length(16)),
+            channels: Lent::new(self.numbers(), self.length(8)),
+        }
+    }
+}
