@@ -1,8 +1,11 @@
 pub mod RunLaws
 pub mod WordLaws
+pub mod SplitLaws
 pub mod NumberLaws
 pub mod PutLaws
 pub mod TextLaws
 pub mod ItemLaws
+pub mod MeaningLaws
+pub mod AccessLaws
 pub mod ReadBack
 pub mod AnswerLaws

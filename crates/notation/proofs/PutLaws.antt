@@ -39,3 +39,7 @@ module _ {t u a b c : List ℕ} {i j k : ℕ} where
             ∙ ap (λ (l : List ℕ). sets l (i + length t) u) (p .written (omega (arith, n)))
             ∙ sets-append t u a i;
       }
+
+-- two pieces of text that were put as one
+pub put-two : {t a b c : List ℕ} {i j k : ℕ} (u v : List ℕ) → Put t a i b j → Put (u ++ v) b j c k → Put (t ++ u ++ v) a i c k
+put-two u v p q = rw append-assoc (put-then p q)

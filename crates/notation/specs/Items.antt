@@ -1,52 +1,71 @@
--- Lists of bytes and of numbers in a line, and the buffers of a call.
+-- Lists of bytes and of numbers in a line, up to a `/` or the line's end.
 -- Assumes nothing.
 use mathlib.Core.Path.{_≡_}
-use mathlib.Core.Bool.{Bool, true, false}
-use mathlib.Core.List.{List, [], _∷_, _++_}
-use Prim.Native.Nat.{ℕ, _+_, _≤_}
+use mathlib.Core.Bool.{Bool, true, false, cond}
+use mathlib.Core.List.{List, [], _∷_}
+use Prim.Native.Nat.{ℕ, zero, suc, _≤_}
+use lib.Dec.{ltb}
 use lib.ListN.{length, take, drop}
 use lib.IntN.{ℤ}
 use mir.Syntax.{w16}
 use mir.Val.{toZ}
-use Rattle.notation.specs.declared.Call.{Call}
-use Rattle.notation.specs.declared.Call.the-variants.{Nothing, Unknown, Create, Read, Write, Sample, Command, Raise, Clear, Drive}
+use Rattle.notation.specs.declared.Expected.{Expected}
+use Rattle.notation.specs.declared.Expected.the-variants as Ex
 use Rattle.notation.specs.declared.items.Items.{Items}
 use Rattle.notation.specs.declared.items.Items.the-variants as It
-use Rattle.notation.specs.Words.{firstWord, wordEnd}
+use Rattle.notation.specs.Ascii.{ascii}
+use Rattle.notation.specs.Words.{wordsOf, isWord}
 use Rattle.notation.specs.Numbers.{shortNumber, signedOf}
 
--- xs are the items of the first words of a line, which end at n
-pub data Listed {A : Type 0} (item : List ℕ → A) (line : List ℕ) : ℕ → List A → Type 0 where
-  none : Listed item line 0 []
-  more : {n : ℕ} {xs : List A} → Listed item line n xs → Listed item line (n + wordEnd (drop n line)) (xs ++ (item (firstWord (drop n line)) ∷ []))
+-- how a word is read as an item: its number, which is above `most` where it is none, the item, and what should have stood there
+pub record Item (A : Type 0) : Type 0 where
+  pub number : List ℕ → ℕ
+  pub most : ℕ
+  pub value : ℕ → A
+  pub expected : Expected
 
--- a byte of 1 or 2 hexadecimal digits
-abbrev pub byteItem : List ℕ → ℕ
-byteItem word = shortNumber 2 word
+-- "a byte 1 or 2" hexadecimal digits
+abbrev pub byteItem : Item ℕ
+byteItem = record { number = shortNumber 2; most = 255; value = λ n. n; expected = Ex.Byte }
 
--- a number from -32768 to 32767
-abbrev pub numberItem : List ℕ → ℤ
-numberItem word = toZ w16 (signedOf word)
+-- "signed analogue numbers (-32768 to 32767)"
+abbrev pub numberItem : Item ℤ
+numberItem = record { number = signedOf; most = 65535; value = toZ w16; expected = Ex.Signed }
 
--- `count` items of a line's words, which end at `used`, stand in front of a buffer
-pub record InBuffer {A : Type 0} (item : List ℕ → A) (line : List ℕ) (out : List A) (count used : ℕ) : Type 0 where
-  pub are : Listed item line used (take count out)
+abbrev pub slash : List ℕ
+slash = ascii "/"
+
+-- no item follows
+abbrev pub isOver : List (List ℕ) → Bool
+isOver [] = true
+isOver (w ∷ ws) = isWord w slash
+
+-- the items of some words and the words after them; or what should have stood there
+pub data Found (A : Type 0) : Type 0 where
+  items : List A → List (List ℕ) → Found A
+  missing : Expected → Found A
+
+-- an item in front
+abbrev pub withItem : {A : Type 0} → A → Found A → Found A
+withItem x (items xs ws) = items (x ∷ xs) ws
+withItem x (missing e) = missing e
+
+-- the items of the words up to a `/` or the line's end, where there is room for them
+abbrev pub itemsOf : {A : Type 0} → Item A → ℕ → List (List ℕ) → Found A
+itemsOf k room [] = items [] []
+itemsOf k zero (w ∷ ws) =
+    cond (isWord w slash) (items [] (w ∷ ws))
+    (cond (ltb (k .most) (k .number w)) (missing (k .expected)) (missing Ex.Fewer))
+itemsOf k (suc room) (w ∷ ws) =
+    cond (isWord w slash) (items [] (w ∷ ws))
+    (cond (ltb (k .most) (k .number w)) (missing (k .expected)) (withItem (k .value (k .number w)) (itemsOf k room ws)))
+
+-- the first `count` elements of a buffer are the items of a line, which end at `used`
+pub record InBuffer {A : Type 0} (k : Item A) (line : List ℕ) (out : List A) (count used : ℕ) : Type 0 where
+  pub found : itemsOf k (length out) (wordsOf line) ≡ items (take count out) (wordsOf (drop used line))
   pub room : count ≤ length out
   pub within : used ≤ length line
 
-abbrev pub ReadInto : {A : Type 0} → (List ℕ → A) → List ℕ → List A → Items → Type 0
-ReadInto item line out (It.Read count used) = InBuffer item line out count used
-ReadInto item line out (It.Unknown e) = Unit {0}
-
--- the data of a call lie within the buffers: 512 bytes for a write, 64 bytes or numbers elsewhere
-abbrev pub Fitting : Call → Type 0
-Fitting Nothing = Unit {0}
-Fitting (Unknown e) = Unit {0}
-Fitting (Create n) = Unit {0}
-Fitting (Read i s) = Unit {0}
-Fitting (Write i s n) = n ≤ 512
-Fitting (Sample n m k) = (n ≤ 64) × (m ≤ 64) × (k ≤ 64)
-Fitting (Command c n) = Unit {0}
-Fitting (Raise c) = Unit {0}
-Fitting (Clear c) = Unit {0}
-Fitting (Drive n m) = (n ≤ 64) × (m ≤ 64)
+abbrev pub ReadInto : {A : Type 0} → Item A → List ℕ → List A → Items → Type 0
+ReadInto k line out (It.Read count used) = InBuffer k line out count used
+ReadInto k line out (It.Unknown e) = itemsOf k (length out) (wordsOf line) ≡ missing e

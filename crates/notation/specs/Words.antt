@@ -28,6 +28,46 @@ firstWord line = take (run false 32 (drop (spaces line) line)) (drop (spaces lin
 unfoldable pub afterWord : List ℕ → List ℕ
 afterWord line = drop (wordEnd line) line
 
+-- a byte in front of the first piece
+abbrev pub inFront : ℕ → List (List ℕ) → List (List ℕ)
+inFront x [] = (x ∷ []) ∷ []
+inFront x (p ∷ ps) = (x ∷ p) ∷ ps
+
+-- the pieces of a line between its spaces, empty ones too
+abbrev pub piecesOf : List ℕ → List (List ℕ)
+piecesOf [] = [] ∷ []
+piecesOf (x ∷ xs) = cond (eqb x 32) ([] ∷ piecesOf xs) (inFront x (piecesOf xs))
+
+abbrev pub withoutEmpty : List (List ℕ) → List (List ℕ)
+withoutEmpty [] = []
+withoutEmpty ([] ∷ ps) = withoutEmpty ps
+withoutEmpty ((x ∷ p) ∷ ps) = (x ∷ p) ∷ withoutEmpty ps
+
+-- words are "separated by one or more spaces"
+unfoldable pub wordsOf : List ℕ → List (List ℕ)
+wordsOf line = withoutEmpty (piecesOf line)
+
+-- the first of some words; empty where there is none
+abbrev pub firstOf : List (List ℕ) → List ℕ
+firstOf [] = []
+firstOf (w ∷ ws) = w
+
+-- the words after the first
+abbrev pub othersOf : List (List ℕ) → List (List ℕ)
+othersOf [] = []
+othersOf (w ∷ ws) = ws
+
+abbrev pub isNone : List (List ℕ) → Bool
+isNone [] = true
+isNone (w ∷ ws) = false
+
+-- two words are the same
+abbrev pub isWord : List ℕ → List ℕ → Bool
+isWord [] [] = true
+isWord [] (y ∷ ys) = false
+isWord (x ∷ xs) [] = false
+isWord (x ∷ xs) (y ∷ ys) = eqb x y && isWord xs ys
+
 -- only spaces are left
 abbrev pub isBlank : List ℕ → Bool
 isBlank line = eqb (length (firstWord line)) 0

@@ -8,9 +8,9 @@ use crate::text::put_decimal;
 use crate::text::put_long_hex;
 use crate::text::put_numbers;
 use crate::text::put_places;
-ghost use mathlib.Core.List.{[]};
+ghost use Rattle.profile.specs.Entries.{entryOf};
 ghost use Rattle.notation.specs.Texts.{Put};
-ghost use Rattle.notation.specs.Answers.{PutWith, numberText, readText, sampleText, driveText, unknownText};
+ghost use Rattle.notation.specs.Answers.{numberText, abortText, refusalText, endText, attributeText, linesText, entryText, plainLine, writeLine, readLine, sampleLine, driveLine, expectedText, unknownLine, totalsText};
 use profile::Entry;
 use profile::refusals::NO_OBJECT;
 use profile::refusals::NO_SUB_INDEX;
@@ -34,7 +34,7 @@ fn put_number(out: &mut [u8], at: usize, number: u32) -> usize
 
 // A call that answers its number alone.
 pub fn put_plain(out: &mut [u8], at: usize, number: u32) -> usize
-    ensures { λ r. ⌜ PutWith (numberText number) (now (out .entry)) at (now (out .exit)) r ⌝ }
+    ensures { λ r. ⌜ Put (plainLine number) (now (out .entry)) at (now (out .exit)) r ⌝ }
 {
     let next = put_number(out, at, number);
     end(out, next, number)
@@ -50,7 +50,7 @@ pub fn put_read(
     index: u16,
     sub: u8,
 ) -> usize
-    ensures { λ r. ⌜ PutWith (readText number value size) (now (out .entry)) at (now (out .exit)) r ⌝ }
+    ensures { λ r. ⌜ Put (readLine number value size index sub) (now (out .entry)) at (now (out .exit)) r ⌝ }
 {
     if number != 0 {
         return put_plain(out, at, number);
@@ -67,7 +67,7 @@ pub fn put_read(
 }
 
 pub fn put_write(out: &mut [u8], at: usize, number: u32, index: u16, sub: u8) -> usize
-    ensures { λ r. ⌜ PutWith (numberText number) (now (out .entry)) at (now (out .exit)) r ⌝ }
+    ensures { λ r. ⌜ Put (writeLine number index sub) (now (out .entry)) at (now (out .exit)) r ⌝ }
 {
     if number != 0 {
         return put_plain(out, at, number);
@@ -77,7 +77,7 @@ pub fn put_write(out: &mut [u8], at: usize, number: u32, index: u16, sub: u8) ->
 }
 
 pub fn put_sample(out: &mut [u8], at: usize, number: u32, events: &[u8], channels: u16) -> usize
-    ensures { λ r. ⌜ PutWith (sampleText number (now (events .entry)) channels) (now (out .entry)) at (now (out .exit)) r ⌝ }
+    ensures { λ r. ⌜ Put (sampleLine number (now (events .entry)) channels) (now (out .entry)) at (now (out .exit)) r ⌝ }
 {
     let first = put_number(out, at, number);
     let second = put_all(out, first, b" events");
@@ -88,7 +88,7 @@ pub fn put_sample(out: &mut [u8], at: usize, number: u32, events: &[u8], channel
 }
 
 pub fn put_drive(out: &mut [u8], at: usize, number: u32, lines: &[u8], channels: &[i16]) -> usize
-    ensures { λ r. ⌜ PutWith (driveText number (now (lines .entry)) (now (channels .entry))) (now (out .entry)) at (now (out .exit)) r ⌝ }
+    ensures { λ r. ⌜ Put (driveLine number (now (lines .entry)) (now (channels .entry))) (now (out .entry)) at (now (out .exit)) r ⌝ }
 {
     let first = put_number(out, at, number);
     let second = put_all(out, first, b" lines");
@@ -100,7 +100,7 @@ pub fn put_drive(out: &mut [u8], at: usize, number: u32, lines: &[u8], channels:
 
 // A refusal's meaning and the line's end.
 fn end(out: &mut [u8], at: usize, number: u32) -> usize
-    ensures { λ r. ⌜ PutWith [] (now (out .entry)) at (now (out .exit)) r ⌝ }
+    ensures { λ r. ⌜ Put (endText number) (now (out .entry)) at (now (out .exit)) r ⌝ }
 {
     if number == 0 {
         return put(out, at, b'\n');
@@ -112,7 +112,7 @@ fn end(out: &mut [u8], at: usize, number: u32) -> usize
 
 // What an entry of digital lines is a window on, and the line's end.
 fn end_access(out: &mut [u8], at: usize, index: u16, sub: u8) -> usize
-    ensures { λ r. ⌜ PutWith [] (now (out .entry)) at (now (out .exit)) r ⌝ }
+    ensures { λ r. ⌜ Put (entryText (entryOf index sub)) (now (out .entry)) at (now (out .exit)) r ⌝ }
 {
     let entry = Entry::find(index, sub);
     if let Entry::Window(row, width, place) = entry {
@@ -130,7 +130,7 @@ fn end_access(out: &mut [u8], at: usize, index: u16, sub: u8) -> usize
 }
 
 fn put_lines(out: &mut [u8], at: usize, from: u64, to: u64) -> usize
-    ensures { λ r. ⌜ PutWith [] (now (out .entry)) at (now (out .exit)) r ⌝ }
+    ensures { λ r. ⌜ Put (linesText from to) (now (out .entry)) at (now (out .exit)) r ⌝ }
 {
     if from == to {
         let next = put_all(out, at, b", line ");
@@ -143,7 +143,7 @@ fn put_lines(out: &mut [u8], at: usize, from: u64, to: u64) -> usize
 }
 
 fn put_attribute(out: &mut [u8], at: usize, row: usize) -> usize
-    ensures { λ r. ⌜ PutWith [] (now (out .entry)) at (now (out .exit)) r ⌝ }
+    ensures { λ r. ⌜ Put (attributeText row) (now (out .entry)) at (now (out .exit)) r ⌝ }
 {
     match row {
         0 => put_all(out, at, b"input"),
@@ -161,7 +161,7 @@ fn put_attribute(out: &mut [u8], at: usize, row: usize) -> usize
 }
 
 fn put_meaning(out: &mut [u8], at: usize, number: u32) -> usize
-    ensures { λ r. ⌜ PutWith [] (now (out .entry)) at (now (out .exit)) r ⌝ }
+    ensures { λ r. ⌜ Put (refusalText number) (now (out .entry)) at (now (out .exit)) r ⌝ }
 {
     match number {
         1 => put_all(out, at, b"node number out of range"),
@@ -175,7 +175,7 @@ fn put_meaning(out: &mut [u8], at: usize, number: u32) -> usize
 }
 
 fn put_abort(out: &mut [u8], at: usize, code: u32) -> usize
-    ensures { λ r. ⌜ PutWith [] (now (out .entry)) at (now (out .exit)) r ⌝ }
+    ensures { λ r. ⌜ Put (abortText code) (now (out .entry)) at (now (out .exit)) r ⌝ }
 {
     match code {
         STOPPED => put_all(out, at, b"node stopped"),
@@ -193,7 +193,7 @@ fn put_abort(out: &mut [u8], at: usize, code: u32) -> usize
 
 // A line that is no call.
 pub fn put_unknown(out: &mut [u8], at: usize, line: u64, expected: Expected) -> usize
-    ensures { λ r. ⌜ PutWith (unknownText line) (now (out .entry)) at (now (out .exit)) r ⌝ }
+    ensures { λ r. ⌜ Put (unknownLine line expected) (now (out .entry)) at (now (out .exit)) r ⌝ }
 {
     let first = put_all(out, at, b"? line ");
     let second = put_decimal(out, first, line);
@@ -204,7 +204,7 @@ pub fn put_unknown(out: &mut [u8], at: usize, line: u64, expected: Expected) -> 
 }
 
 fn put_expected(out: &mut [u8], at: usize, expected: Expected) -> usize
-    ensures { λ r. ⌜ PutWith [] (now (out .entry)) at (now (out .exit)) r ⌝ }
+    ensures { λ r. ⌜ Put (expectedText expected) (now (out .entry)) at (now (out .exit)) r ⌝ }
 {
     match expected {
         Expected::Call => put_all(out, at, b"a call or an index of 1 to 4 hexadecimal digits"),
@@ -212,7 +212,7 @@ fn put_expected(out: &mut [u8], at: usize, expected: Expected) -> usize
         Expected::Small => put_all(out, at, b"a number from 0 to 255"),
         Expected::Signed => put_all(out, at, b"a number from -32768 to 32767"),
         Expected::Cause => put_all(out, at, b"internal or communication"),
-        Expected::Data => put_all(out, at, b"= or the end of the line"),
+        Expected::Data => put_all(out, at, b"= between spaces, or the end of the line"),
         Expected::Slash => put_all(out, at, b"/ and numbers"),
         Expected::Fewer => put_all(out, at, b"at most 64 in a buffer"),
         Expected::End => put_all(out, at, b"the end of the line"),
@@ -222,7 +222,7 @@ fn put_expected(out: &mut [u8], at: usize, expected: Expected) -> usize
 
 // The last line: how many calls, how many of them refused, and how many lines that are no call.
 pub fn put_totals(out: &mut [u8], at: usize, calls: u64, refused: u64, unknown: u64) -> usize
-    ensures { λ r. ⌜ PutWith [] (now (out .entry)) at (now (out .exit)) r ⌝ }
+    ensures { λ r. ⌜ Put (totalsText calls refused unknown) (now (out .entry)) at (now (out .exit)) r ⌝ }
 {
     let first = put(out, at, b'\n');
     let second = put_decimal(out, first, calls);

@@ -16,19 +16,28 @@ use crate::words::until;
 use crate::words::without_first;
 use check::same;
 use profile::Cause;
+ghost use mathlib.Core.Path.{_≡_};
+ghost use mathlib.Core.Bool.{cond};
 ghost use Prim.Native.Nat.{_≤_};
-ghost use lib.ListN.{length};
-ghost use Rattle.notation.specs.Items.{Fitting};
+ghost use lib.ListN.{replicate};
+ghost use lib.IntN.{pos};
+ghost use Rattle.profile.specs.Calls as Doc;
+ghost use Rattle.notation.specs.Words.{wordsOf};
+ghost use Rattle.notation.specs.Items.{byteItem, numberItem, itemsOf};
+ghost use Rattle.notation.specs.Promises.{Says, SaysPlain, SaysPayload, SaysSample, SaysAnalogue, SaysDrive, SaysChannels};
+ghost use Rattle.notation.specs.Meanings.Meaning.{call};
+ghost use Rattle.notation.specs.Meanings.{meaningOf, plainMeaning, namedCommand, createMeaning, commandMeaning, namedMeaning, faultMeaning, accessMeaning, subIndexOf, writeMeaning, sampleMeaning, driveMeaning};
 
 // The buffers are lent filled with zeros: a sample or a drive without them gets the first of those.
 pub fn understand(
     line: &[u8],
-    data: &mut [u8; 512],
+    payload: &mut [u8; 512],
     bytes: &mut [u8; 64],
     numbers: &mut [i16; 64],
     events: &mut [u8; 64],
 ) -> Call
-    ensures { λ r. ⌜ Fitting r ⌝ }
+    requires { ⌜ (now bytes ≡ replicate 64 0) × (now numbers ≡ replicate 64 (pos 0)) × (now events ≡ replicate 64 0) ⌝ }
+    ensures { λ r. ⌜ Says (meaningOf (now (line .entry))) r (now (payload .exit)) (now (bytes .exit)) (now (numbers .exit)) (now (events .exit)) ⌝ }
 {
     let text = content(line);
     let word = first_word(text);
@@ -42,16 +51,12 @@ pub fn understand(
     if same(word, b"drive") {
         return drive(rest, bytes, numbers);
     }
-    let call = plain_call(word, rest);
-    if let Call::Nothing = call {
-        return access(word, rest, data);
-    }
-    call
+    plain_call(word, rest, payload)
 }
 
-// The calls that a word names and that bring no buffers; nothing where it names none.
-fn plain_call(word: &[u8], rest: &[u8]) -> Call
-    ensures { λ r. ⌜ Fitting r ⌝ }
+// The calls that bring no buffers.
+fn plain_call(word: &[u8], rest: &[u8], payload: &mut [u8; 512]) -> Call
+    ensures { λ r. ⌜ SaysPayload (plainMeaning (now (word .entry)) (wordsOf (now (rest .entry)))) r (now (payload .exit)) ⌝ }
 {
     if same(word, b"create") {
         return create(rest);
@@ -65,11 +70,12 @@ fn plain_call(word: &[u8], rest: &[u8]) -> Call
     if same(word, b"clear") {
         return fault(rest, false);
     }
-    named_command(word, rest)
+    named_command(word, rest, payload)
 }
 
-fn named_command(word: &[u8], rest: &[u8]) -> Call
-    ensures { λ r. ⌜ Fitting r ⌝ }
+// The commands that have names of their own; any other word is an entry.
+fn named_command(word: &[u8], rest: &[u8], payload: &mut [u8; 512]) -> Call
+    ensures { λ r. ⌜ SaysPayload (namedCommand (now (word .entry)) (wordsOf (now (rest .entry)))) r (now (payload .exit)) ⌝ }
 {
     if same(word, b"start") {
         return command_to(1, rest);
@@ -86,11 +92,11 @@ fn named_command(word: &[u8], rest: &[u8]) -> Call
     if same(word, b"reset-communication") {
         return command_to(130, rest);
     }
-    Call::Nothing
+    access(word, rest, payload)
 }
 
 fn create(rest: &[u8]) -> Call
-    ensures { λ r. ⌜ Fitting r ⌝ }
+    ensures { λ r. ⌜ SaysPlain (createMeaning (wordsOf (now (rest .entry)))) r ⌝ }
 {
     let node = decimal(first_word(rest));
     if 255 < node {
@@ -103,7 +109,7 @@ fn create(rest: &[u8]) -> Call
 }
 
 fn command(rest: &[u8]) -> Call
-    ensures { λ r. ⌜ Fitting r ⌝ }
+    ensures { λ r. ⌜ SaysPlain (commandMeaning (wordsOf (now (rest .entry)))) r ⌝ }
 {
     let code = decimal(first_word(rest));
     if 255 < code {
@@ -122,7 +128,7 @@ fn command(rest: &[u8]) -> Call
 
 // A command by name, for all nodes unless a number follows.
 fn command_to(code: u8, rest: &[u8]) -> Call
-    ensures { λ r. ⌜ Fitting r ⌝ }
+    ensures { λ r. ⌜ SaysPlain (namedMeaning code (wordsOf (now (rest .entry)))) r ⌝ }
 {
     if is_blank(rest) {
         return Call::Command(code, 0);
@@ -137,34 +143,34 @@ fn command_to(code: u8, rest: &[u8]) -> Call
     Call::Command(code, node as u8)
 }
 
-fn fault(rest: &[u8], is_raised: bool) -> Call
-    ensures { λ r. ⌜ Fitting r ⌝ }
+fn fault(rest: &[u8], raised: bool) -> Call
+    ensures { λ r. ⌜ SaysPlain (faultMeaning (cond raised Doc.Call.raise Doc.Call.clear) (wordsOf (now (rest .entry)))) r ⌝ }
 {
     let word = first_word(rest);
     if !is_blank(after_word(rest)) {
         return Call::Unknown(Expected::End);
     }
     if same(word, b"internal") {
-        return change(is_raised, Cause::Internal);
+        return change(raised, Cause::Internal);
     }
     if same(word, b"communication") {
-        return change(is_raised, Cause::Lost);
+        return change(raised, Cause::Lost);
     }
     Call::Unknown(Expected::Cause)
 }
 
-fn change(is_raised: bool, cause: Cause) -> Call
-    ensures { λ r. ⌜ Fitting r ⌝ }
+fn change(raised: bool, cause: Cause) -> Call
+    ensures { λ r. ⌜ SaysPlain (call (cond raised Doc.Call.raise Doc.Call.clear cause)) r ⌝ }
 {
-    if is_raised {
+    if raised {
         return Call::Raise(cause);
     }
     Call::Clear(cause)
 }
 
 // A read or a write of the entry that a word names.
-fn access(word: &[u8], rest: &[u8], data: &mut [u8; 512]) -> Call
-    ensures { λ r. ⌜ Fitting r ⌝ }
+fn access(word: &[u8], rest: &[u8], payload: &mut [u8; 512]) -> Call
+    ensures { λ r. ⌜ SaysPayload (accessMeaning (now (word .entry)) (wordsOf (now (rest .entry)))) r (now (payload .exit)) ⌝ }
 {
     let n = until(word, b':');
     let index = hexadecimal(front(word, n), 4);
@@ -181,21 +187,23 @@ fn access(word: &[u8], rest: &[u8], data: &mut [u8; 512]) -> Call
     if !same(first_word(rest), b"=") {
         return Call::Unknown(Expected::Data);
     }
-    write(index as u16, sub as u8, after_word(rest), data)
+    write(index as u16, sub as u8, after_word(rest), payload)
 }
 
 // What follows an index: nothing, for sub-index 0, or a colon and a sub-index.
-fn sub_index(word: &[u8]) -> u32 {
+fn sub_index(word: &[u8]) -> u32
+    ensures { λ r. ⌜ r ≡ subIndexOf (now (word .entry)) ⌝ }
+{
     if word.len() == 0 {
         return 0;
     }
     hexadecimal(without_first(word), 2)
 }
 
-fn write(index: u16, sub: u8, rest: &[u8], data: &mut [u8; 512]) -> Call
-    ensures { λ r. ⌜ Fitting r ⌝ }
+fn write(index: u16, sub: u8, rest: &[u8], payload: &mut [u8; 512]) -> Call
+    ensures { λ r. ⌜ SaysPayload (writeMeaning index sub (itemsOf byteItem 512 (wordsOf (now (rest .entry))))) r (now (payload .exit)) ⌝ }
 {
-    match read_bytes(rest, data) {
+    match read_bytes(rest, payload) {
         Items::Unknown(expected) => Call::Unknown(expected),
         Items::Read(count, used) => {
             if !is_blank(back(rest, used)) {
@@ -207,7 +215,8 @@ fn write(index: u16, sub: u8, rest: &[u8], data: &mut [u8; 512]) -> Call
 }
 
 fn sample(rest: &[u8], bytes: &mut [u8; 64], numbers: &mut [i16; 64], events: &mut [u8; 64]) -> Call
-    ensures { λ r. ⌜ Fitting r ⌝ }
+    requires { ⌜ now events ≡ replicate 64 0 ⌝ }
+    ensures { λ r. ⌜ SaysSample (sampleMeaning (itemsOf byteItem 64 (wordsOf (now (rest .entry))))) r (now (bytes .exit)) (now (numbers .exit)) (now (events .exit)) ⌝ }
 {
     match read_bytes(rest, bytes) {
         Items::Unknown(expected) => Call::Unknown(expected),
@@ -222,8 +231,8 @@ fn sample(rest: &[u8], bytes: &mut [u8; 64], numbers: &mut [i16; 64], events: &m
 }
 
 fn sampled(digital: usize, rest: &[u8], numbers: &mut [i16; 64], events: &mut [u8; 64]) -> Call
-    requires { ⌜ digital ≤ 64 ⌝ }
-    ensures { λ r. ⌜ Fitting r ⌝ }
+    requires { ⌜ (digital ≤ 64) × (now events ≡ replicate 64 0) ⌝ }
+    ensures { λ r. ⌜ SaysAnalogue digital (itemsOf numberItem 64 (wordsOf (now (rest .entry)))) r (now (numbers .exit)) (now (events .exit)) ⌝ }
 {
     match read_numbers(rest, numbers) {
         Items::Unknown(expected) => Call::Unknown(expected),
@@ -247,7 +256,8 @@ fn sampled(digital: usize, rest: &[u8], numbers: &mut [i16; 64], events: &mut [u
 }
 
 fn drive(rest: &[u8], bytes: &mut [u8; 64], numbers: &mut [i16; 64]) -> Call
-    ensures { λ r. ⌜ Fitting r ⌝ }
+    requires { ⌜ (now bytes ≡ replicate 64 0) × (now numbers ≡ replicate 64 (pos 0)) ⌝ }
+    ensures { λ r. ⌜ SaysDrive (driveMeaning (wordsOf (now (rest .entry)))) r (now (bytes .exit)) (now (numbers .exit)) ⌝ }
 {
     if is_blank(rest) {
         return Call::Drive(16, 8);
@@ -266,7 +276,7 @@ fn drive(rest: &[u8], bytes: &mut [u8; 64], numbers: &mut [i16; 64]) -> Call
 
 fn driven(lines: usize, rest: &[u8], numbers: &mut [i16; 64]) -> Call
     requires { ⌜ lines ≤ 64 ⌝ }
-    ensures { λ r. ⌜ Fitting r ⌝ }
+    ensures { λ r. ⌜ SaysChannels lines (itemsOf numberItem 64 (wordsOf (now (rest .entry)))) r (now (numbers .exit)) ⌝ }
 {
     match read_numbers(rest, numbers) {
         Items::Unknown(expected) => Call::Unknown(expected),

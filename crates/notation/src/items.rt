@@ -8,11 +8,9 @@ use crate::words::word_end;
 use channels::numbers::signed16;
 use check::same;
 ghost use mathlib.Core.Path.{_≡_};
-ghost use mathlib.Core.Bool.{false};
-ghost use Prim.Native.Nat.{_≤_};
-ghost use lib.ListN.{length, take};
-ghost use Rattle.notation.specs.Words.{firstWord};
-ghost use Rattle.notation.specs.Items.{ReadInto, byteItem, numberItem};
+ghost use lib.ListN.{take};
+ghost use Rattle.notation.specs.Words.{wordsOf};
+ghost use Rattle.notation.specs.Items.{ReadInto, byteItem, numberItem, isOver};
 
 // What reading a list finds.
 pub enum Items {
@@ -23,7 +21,7 @@ pub enum Items {
 
 // No item follows: the line ends, or a `/` stands there.
 pub fn is_over(line: &[u8]) -> bool
-    ensures { λ r. ⌜ (r ≡ false → 1 ≤ length (firstWord (now (line .entry)))) ⌝ }
+    ensures { λ r. ⌜ r ≡ isOver (wordsOf (now (line .entry))) ⌝ }
 {
     let word = first_word(line);
     (word.len() == 0) | same(word, b"/")

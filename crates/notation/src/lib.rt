@@ -45,7 +45,7 @@ pub enum Expected {
     // From -32768 to 32767.
     Signed,
     Cause,
-    // `=` or the end of the line.
+    // `=` as a word of its own, or the end of the line.
     Data,
     // `/`
     Slash,

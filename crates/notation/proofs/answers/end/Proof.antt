@@ -1,7 +1,9 @@
 -- `answers::end` meets its contract.
 -- Assumes nothing.
-use Rattle.notation.proofs.AnswerLaws.{words-only, words-then}
-use Prim.Native.Nat.{_-_}
+use Rattle.notation.specs.Ascii.{ascii}
+use Rattle.notation.specs.Answers.{newline, endText}
+use Rattle.notation.proofs.PutLaws.{put-then, put-two}
+use borrow.Author.Tests.{eq-eqb, ne-eqb}
 use borrow.Author.Needs.{needs}
 use Rattle.notation.proofs.answers.end.Statement.{statement}
 use Rattle.notation.proofs.answers.end.Tie as tie
@@ -13,7 +15,8 @@ same-length : tie.Need-same-length
 same-length c = search needs
 
 returns : tie.Need-returns
-returns c = words-only (c .before .before .put .ensures)
+unfolding endText
+returns c = rw (eq-eqb (c .before .before .before .before .before .before .args .number) 0 (c .before .before .before .before .if1 .taken)) (c .before .before .put .ensures)
 
 slice-aggregate-put-all : tie.Need-slice-aggregate-put-all
 slice-aggregate-put-all c = search needs
@@ -34,7 +37,8 @@ same-length-2 : tie.Need-same-length-2
 same-length-2 c = search needs
 
 returns-2 : tie.Need-returns-2
-returns-2 c = words-then (words-only (c .before .before .before .before .before .before .before .before .before .before .before .put-all .ensures)) (words-then (c .before .before .before .before .before .before .before .put-meaning .ensures) (words-only (c .before .before .put-all2 .ensures)))
+unfolding endText
+returns-2 c = rw (ne-eqb (c .before .before .before .before .before .before .before .before .before .before .before .before .before .before .before .before .args .number) 0 (c .before .before .before .before .before .before .before .before .before .before .before .before .before .before .if1 .left)) (put-two (ascii ")") newline (put-then (c .before .before .before .before .before .before .before .before .before .before .before .put-all .ensures) (c .before .before .before .before .before .before .before .put-meaning .ensures)) (c .before .before .put-all2 .ensures))
 
 pub end-spec : {M : Type 1} → statement M
 end-spec =

@@ -1,9 +1,7 @@
 -- `answers::put_drive` meets its contract.
 -- Assumes nothing.
-use Rattle.notation.specs.Answers.{driveText}
-use Rattle.notation.proofs.AnswerLaws.{put-words}
+use Rattle.notation.specs.Answers.{driveLine}
 use Rattle.notation.proofs.PutLaws.{put-then}
-use Prim.Native.Nat.{_-_}
 use borrow.Author.Needs.{needs}
 use Rattle.notation.proofs.answers.put_drive.Statement.{statement}
 use Rattle.notation.proofs.answers.put_drive.Tie as tie
@@ -36,8 +34,8 @@ same-length : tie.Need-same-length
 same-length c = search needs
 
 returns : tie.Need-returns
-unfolding driveText
-returns c = put-words (put-then (put-then (put-then (put-then (c .before .before .before .before .before .before .before .before .before .before .before .before .before .before .before .before .before .before .before .before .before .before .before .before .put-number .ensures) (c .before .before .before .before .before .before .before .before .before .before .before .before .before .before .before .before .before .before .before .put-all .ensures)) (c .before .before .before .before .before .before .before .before .before .before .before .before .before .before .before .put-bytes .ensures)) (c .before .before .before .before .before .before .before .before .before .before .put-all2 .ensures)) (c .before .before .before .before .before .before .put-numbers .ensures)) (c .before .before .end .ensures)
+unfolding driveLine
+returns c = put-then (put-then (put-then (put-then (put-then (c .before .before .before .before .before .before .before .before .before .before .before .before .before .before .before .before .before .before .before .before .before .before .before .before .put-number .ensures) (c .before .before .before .before .before .before .before .before .before .before .before .before .before .before .before .before .before .before .before .put-all .ensures)) (c .before .before .before .before .before .before .before .before .before .before .before .before .before .before .before .put-bytes .ensures)) (c .before .before .before .before .before .before .before .before .before .before .put-all2 .ensures)) (c .before .before .before .before .before .before .put-numbers .ensures)) (c .before .before .end .ensures)
 
 pub put-drive-spec : {M : Type 1} → statement M
 put-drive-spec =

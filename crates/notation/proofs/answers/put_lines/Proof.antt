@@ -1,8 +1,8 @@
 -- `answers::put_lines` meets its contract.
 -- Assumes nothing.
-use Rattle.notation.proofs.AnswerLaws.{words-only}
+use Rattle.notation.specs.Answers.{linesText}
 use Rattle.notation.proofs.PutLaws.{put-then}
-use Prim.Native.Nat.{_-_}
+use borrow.Author.Tests.{eq-eqb, ne-eqb}
 use borrow.Author.Needs.{needs}
 use Rattle.notation.proofs.answers.put_lines.Statement.{statement}
 use Rattle.notation.proofs.answers.put_lines.Tie as tie
@@ -20,7 +20,8 @@ same-length : tie.Need-same-length
 same-length c = search needs
 
 returns : tie.Need-returns
-returns c = words-only (put-then (c .before .before .before .before .before .before .put-all .ensures) (c .before .before .put-decimal .ensures))
+unfolding linesText
+returns c = rw (eq-eqb (c .before .before .before .before .before .before .before .before .before .before .before .args .«from») (c .before .before .before .before .before .before .before .before .before .before .before .args .«to») (c .before .before .before .before .before .before .before .before .before .if1 .taken)) (put-then (c .before .before .before .before .before .before .put-all .ensures) (c .before .before .put-decimal .ensures))
 
 slice-aggregate-put-all-2 : tie.Need-slice-aggregate-put-all-2
 slice-aggregate-put-all-2 c = search needs
@@ -44,7 +45,8 @@ same-length-2 : tie.Need-same-length-2
 same-length-2 c = search needs
 
 returns-2 : tie.Need-returns-2
-returns-2 c = words-only (put-then (c .before .before .before .before .before .before .before .before .before .before .before .before .before .before .before .put-all2 .ensures) (put-then (c .before .before .before .before .before .before .before .before .before .before .before .put-decimal2 .ensures) (put-then (c .before .before .before .before .before .before .put-all3 .ensures) (c .before .before .put-decimal3 .ensures))))
+unfolding linesText
+returns-2 c = rw (ne-eqb (c .before .before .before .before .before .before .before .before .before .before .before .before .before .before .before .before .before .before .before .before .args .«from») (c .before .before .before .before .before .before .before .before .before .before .before .before .before .before .before .before .before .before .before .before .args .«to») (c .before .before .before .before .before .before .before .before .before .before .before .before .before .before .before .before .before .before .if1 .left)) (put-then (put-then (put-then (c .before .before .before .before .before .before .before .before .before .before .before .before .before .before .before .put-all2 .ensures) (c .before .before .before .before .before .before .before .before .before .before .before .put-decimal2 .ensures)) (c .before .before .before .before .before .before .put-all3 .ensures)) (c .before .before .put-decimal3 .ensures))
 
 pub put-lines-spec : {M : Type 1} → statement M
 put-lines-spec =

@@ -1,7 +1,7 @@
 -- `answers::put_plain` meets its contract.
 -- Assumes nothing.
-use Rattle.notation.proofs.AnswerLaws.{put-words}
-use Prim.Native.Nat.{_-_}
+use Rattle.notation.specs.Answers.{plainLine}
+use Rattle.notation.proofs.PutLaws.{put-then}
 use borrow.Author.Needs.{needs}
 use Rattle.notation.proofs.answers.put_plain.Statement.{statement}
 use Rattle.notation.proofs.answers.put_plain.Tie as tie
@@ -16,7 +16,8 @@ same-length : tie.Need-same-length
 same-length c = search needs
 
 returns : tie.Need-returns
-returns c = put-words (c .before .before .before .before .before .before .put-number .ensures) (c .before .before .end .ensures)
+unfolding plainLine
+returns c = put-then (c .before .before .before .before .before .before .put-number .ensures) (c .before .before .end .ensures)
 
 pub put-plain-spec : {M : Type 1} → statement M
 put-plain-spec = tie.close (tie.spec put-number-requires end-requires same-length returns)

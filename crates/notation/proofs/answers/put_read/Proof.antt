@@ -1,13 +1,8 @@
 -- `answers::put_read` meets its contract.
 -- Assumes nothing.
-use Rattle.notation.specs.Answers.{readText}
-use Rattle.notation.proofs.AnswerLaws.{put-words}
-use Rattle.notation.specs.Texts.{Put, bytesText}
+use Rattle.notation.specs.Answers.{readLine}
 use Rattle.notation.proofs.PutLaws.{put-then}
 use borrow.Author.Tests.{eq-eqb, ne-eqb}
-use Prim.Native.Nat.{ℕ, _-_}
-use mathlib.Core.List.{List}
-use mathlib.Core.Path.{subst}
 use borrow.Author.Needs.{needs}
 use Rattle.notation.proofs.answers.put_read.Statement.{statement}
 use Rattle.notation.proofs.answers.put_read.Tie as tie
@@ -19,8 +14,8 @@ same-length : tie.Need-same-length
 same-length c = search needs
 
 returns : tie.Need-returns
-unfolding readText
-returns c = rw (ne-eqb ((c .before .before .before .before .before .before) .args .number) 0 (c .before .before .before .before .if1 .taken)) (c .before .before .put-plain .ensures)
+unfolding readLine
+returns c = rw (ne-eqb (c .before .before .before .before .before .before .args .number) 0 (c .before .before .before .before .if1 .taken)) (c .before .before .put-plain .ensures)
 
 cast-t16 : tie.Need-cast-t16
 cast-t16 c = search needs
@@ -56,10 +51,8 @@ same-length-2 : tie.Need-same-length-2
 same-length-2 c = search needs
 
 returns-2 : tie.Need-returns-2
-unfolding readText
-returns-2 c =
-    rw (eq-eqb ((c .before .before .before .before .before .before .before .before .before .before .before .before .before .before .before .before .before) .args .number) 0 (c .before .before .before .before .before .before .before .before .before .before .before .before .before .before .before .if1 .left))
-    (put-words (put-then (c .before .before .before .before .before .before .before .before .before .before .before .before .put-all .ensures) (subst (λ (l : List ℕ). Put (bytesText l) (c .before .before .before .before .before .before .before .before .before .before .before .before .put-all .last .0) (c .before .before .before .before .before .before .before .before .before .before .before .before .put-all .result) (c .before .before .before .before .before .before .put-bytes .last .0) (c .before .before .before .before .before .before .put-bytes .result)) (c .before .before .before .before .before .before .before .first-bytes .ensures) (c .before .before .before .before .before .before .put-bytes .ensures))) (c .before .before .end-access .ensures))
+unfolding readLine
+returns-2 c = rw (eq-eqb (c .before .before .before .before .before .before .before .before .before .before .before .before .before .before .before .before .before .args .number) 0 (c .before .before .before .before .before .before .before .before .before .before .before .before .before .before .before .if1 .left), ← (c .before .before .before .before .before .before .before .first-bytes .ensures)) (put-then (put-then (c .before .before .before .before .before .before .before .before .before .before .before .before .put-all .ensures) (c .before .before .before .before .before .before .put-bytes .ensures)) (c .before .before .end-access .ensures))
 
 pub put-read-spec : {M : Type 1} → statement M
 put-read-spec =

@@ -1,8 +1,8 @@
 -- `answers::put_totals` meets its contract.
 -- Assumes nothing.
-use Rattle.notation.proofs.AnswerLaws.{words-only}
-use Rattle.notation.proofs.PutLaws.{put-then}
-use Prim.Native.Nat.{_-_}
+use Rattle.notation.specs.Ascii.{ascii}
+use Rattle.notation.specs.Answers.{newline, totalsText}
+use Rattle.notation.proofs.PutLaws.{put-then, put-two}
 use borrow.Author.Needs.{needs}
 use Rattle.notation.proofs.answers.put_totals.Statement.{statement}
 use Rattle.notation.proofs.answers.put_totals.Tie as tie
@@ -41,7 +41,8 @@ same-length : tie.Need-same-length
 same-length c = search needs
 
 returns : tie.Need-returns
-returns c = words-only (put-then (c .before .before .before .before .before .before .before .before .before .before .before .before .before .before .before .before .before .before .before .before .before .before .before .before .before .before .before .before .before .put .ensures) (put-then (c .before .before .before .before .before .before .before .before .before .before .before .before .before .before .before .before .before .before .before .before .before .before .before .before .before .put-decimal .ensures) (put-then (c .before .before .before .before .before .before .before .before .before .before .before .before .before .before .before .before .before .before .before .before .put-all .ensures) (put-then (c .before .before .before .before .before .before .before .before .before .before .before .before .before .before .before .before .put-decimal2 .ensures) (put-then (c .before .before .before .before .before .before .before .before .before .before .before .put-all2 .ensures) (put-then (c .before .before .before .before .before .before .before .put-decimal3 .ensures) (c .before .before .put-all3 .ensures)))))))
+unfolding totalsText
+returns c = put-two (ascii " not understood") newline (put-then (put-then (put-then (put-then (put-then (c .before .before .before .before .before .before .before .before .before .before .before .before .before .before .before .before .before .before .before .before .before .before .before .before .before .before .before .before .before .put .ensures) (c .before .before .before .before .before .before .before .before .before .before .before .before .before .before .before .before .before .before .before .before .before .before .before .before .before .put-decimal .ensures)) (c .before .before .before .before .before .before .before .before .before .before .before .before .before .before .before .before .before .before .before .before .put-all .ensures)) (c .before .before .before .before .before .before .before .before .before .before .before .before .before .before .before .before .put-decimal2 .ensures)) (c .before .before .before .before .before .before .before .before .before .before .before .put-all2 .ensures)) (c .before .before .before .before .before .before .before .put-decimal3 .ensures)) (c .before .before .put-all3 .ensures)
 
 pub put-totals-spec : {M : Type 1} → statement M
 put-totals-spec =

@@ -1,9 +1,7 @@
 -- `answers::put_unknown` meets its contract.
 -- Assumes nothing.
-use Rattle.notation.specs.Answers.{unknownText}
-use Rattle.notation.proofs.AnswerLaws.{words-only, words-then, put-words}
+use Rattle.notation.specs.Answers.{unknownLine}
 use Rattle.notation.proofs.PutLaws.{put-then}
-use Prim.Native.Nat.{_-_}
 use borrow.Author.Needs.{needs}
 use Rattle.notation.proofs.answers.put_unknown.Statement.{statement}
 use Rattle.notation.proofs.answers.put_unknown.Tie as tie
@@ -39,8 +37,8 @@ same-length : tie.Need-same-length
 same-length c = search needs
 
 returns : tie.Need-returns
-unfolding unknownText
-returns c = put-words (put-then (put-then (c .before .before .before .before .before .before .before .before .before .before .before .before .before .before .before .before .before .before .before .before .before .before .before .before .put-all .ensures) (c .before .before .before .before .before .before .before .before .before .before .before .before .before .before .before .before .before .before .before .before .put-decimal .ensures)) (c .before .before .before .before .before .before .before .before .before .before .before .before .before .before .before .put-all2 .ensures)) (words-then (words-only (c .before .before .before .before .before .before .before .before .before .before .put-all3 .ensures)) (words-then (c .before .before .before .before .before .before .put-expected .ensures) (words-only (c .before .before .put .ensures))))
+unfolding unknownLine
+returns c = put-then (put-then (put-then (put-then (put-then (c .before .before .before .before .before .before .before .before .before .before .before .before .before .before .before .before .before .before .before .before .before .before .before .before .put-all .ensures) (c .before .before .before .before .before .before .before .before .before .before .before .before .before .before .before .before .before .before .before .before .put-decimal .ensures)) (c .before .before .before .before .before .before .before .before .before .before .before .before .before .before .before .put-all2 .ensures)) (c .before .before .before .before .before .before .before .before .before .before .put-all3 .ensures)) (c .before .before .before .before .before .before .put-expected .ensures)) (c .before .before .put .ensures)
 
 pub put-unknown-spec : {M : Type 1} → statement M
 put-unknown-spec =

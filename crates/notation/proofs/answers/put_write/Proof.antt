@@ -1,11 +1,8 @@
 -- `answers::put_write` meets its contract.
 -- Assumes nothing.
-use Rattle.notation.proofs.AnswerLaws.{put-words, accepted}
-use Rattle.notation.specs.Texts.{Put}
-use denote.Ref.{now}
-use Prim.Native.Nat.{ℕ, _-_}
-use mathlib.Core.List.{List}
-use mathlib.Core.Path.{subst}
+use Rattle.notation.specs.Answers.{writeLine}
+use Rattle.notation.proofs.PutLaws.{put-then}
+use borrow.Author.Tests.{eq-eqb, ne-eqb}
 use borrow.Author.Needs.{needs}
 use Rattle.notation.proofs.answers.put_write.Statement.{statement}
 use Rattle.notation.proofs.answers.put_write.Tie as tie
@@ -17,7 +14,8 @@ same-length : tie.Need-same-length
 same-length c = search needs
 
 returns : tie.Need-returns
-returns c = c .before .before .put-plain .ensures
+unfolding writeLine
+returns c = rw (ne-eqb (c .before .before .before .before .before .before .args .number) 0 (c .before .before .before .before .if1 .taken)) (c .before .before .put-plain .ensures)
 
 put-requires : tie.Need-put-requires
 put-requires c κs = search needs
@@ -29,7 +27,8 @@ same-length-2 : tie.Need-same-length-2
 same-length-2 c = search needs
 
 returns-2 : tie.Need-returns-2
-returns-2 c = put-words (subst (λ (t : List ℕ). Put t (now ((c .before .before .before .before .before .before .before .before .before .before) .args .out)) ((c .before .before .before .before .before .before .before .before .before .before) .args .at) (c .before .before .before .before .before .before .put .last .0) (c .before .before .before .before .before .before .put .result)) (accepted ((c .before .before .before .before .before .before .before .before .before .before) .args .number) (c .before .before .before .before .before .before .before .before .if1 .left)) (c .before .before .before .before .before .before .put .ensures)) (c .before .before .end-access .ensures)
+unfolding writeLine
+returns-2 c = rw (eq-eqb (c .before .before .before .before .before .before .before .before .before .before .args .number) 0 (c .before .before .before .before .before .before .before .before .if1 .left)) (put-then (c .before .before .before .before .before .before .put .ensures) (c .before .before .end-access .ensures))
 
 pub put-write-spec : {M : Type 1} → statement M
 put-write-spec =

@@ -2,10 +2,15 @@
 -- Assumes nothing.
 use Rattle.notation.specs.declared.items.Items.{Items}
 use Rattle.notation.specs.Items.{ReadInto, numberItem}
+use Rattle.notation.specs.Meanings.{channelsMeaning}
+use Rattle.notation.proofs.ItemLaws.{read-found, read-missing, found-end, found-more}
+use Rattle.notation.proofs.MeaningLaws.{blank, not-blank}
 use native.Mathlib.Omega.{arith}
+use mathlib.Core.Path.{subst, sym, ap}
+use lib.ListN.{take}
+use borrow.Author.Tests.{not-true, not-false}
 use denote.Ref.{now}
 use Prim.Native.Nat.{_-_}
-use mathlib.Core.Path.{subst}
 use borrow.Author.Needs.{needs}
 use Rattle.notation.proofs.calls.driven.Statement.{statement}
 use Rattle.notation.proofs.calls.driven.Tie as tie
@@ -20,21 +25,19 @@ enum-known-channels : tie.Need-enum-known-channels
 enum-known-channels c = search needs
 
 back-requires : tie.Need-back-requires
-back-requires c κs = (subst (λ (x : Items). ReadInto numberItem (now ((c .before .before .before .before .before .before) .args .rest)) (c .before .before .before .read-numbers .last .1 .0) x) (c .before .channels .given .1) (c .before .before .before .read-numbers .ensures)) .within
+back-requires c κs = (subst (λ (x : Items). ReadInto numberItem (now (c .before .before .before .before .before .before .args .rest)) (c .before .before .before .read-numbers .last .1 .0) x) (c .before .channels .given .1) (c .before .before .before .read-numbers .ensures)) .within
 
 is-blank-requires : tie.Need-is-blank-requires
 is-blank-requires c κs = search needs
 
 returns : tie.Need-returns
-returns c = search needs
+returns c = λ payload bytes events. record { is = sym (ap (channelsMeaning (take (c .before .before .before .before .before .before .before .before .before .args .lines) bytes)) (found-more _ _ _ (read-found numberItem (now (c .before .before .before .before .before .before .before .before .before .args .rest)) (c .before .before .before .before .before .before .read-numbers .last .1 .0) 64 (omega (arith, c .before .before .before .before .before .before .read-numbers .kept .1 .0)) (c .before .before .before .before .channels .given .0 .0) (c .before .before .before .before .channels .given .0 .1 .0) (now (c .before .before .back .result)) (subst (λ (x : Items). ReadInto numberItem (now (c .before .before .before .before .before .before .before .before .before .args .rest)) (c .before .before .before .before .before .before .read-numbers .last .1 .0) x) (c .before .before .before .before .channels .given .1) (c .before .before .before .before .before .before .read-numbers .ensures)) (c .before .before .back .ensures)) (not-blank (now (c .before .before .back .result)) (c .before .is-blank .result) (c .before .is-blank .ensures) (not-true (c .before .is-blank .result) (c .if1 .taken))))); fits = tt }
 
 returns-2 : tie.Need-returns-2
-returns-2 c = search needs
+returns-2 c = λ payload bytes events. record { is = sym (ap (channelsMeaning (take (c .before .before .before .before .before .before .args .lines) bytes)) (read-missing numberItem (now (c .before .before .before .before .before .before .args .rest)) (c .before .before .before .read-numbers .last .1 .0) 64 (omega (arith, c .before .before .before .read-numbers .kept .1 .0)) _ (subst (λ (x : Items). ReadInto numberItem (now (c .before .before .before .before .before .before .args .rest)) (c .before .before .before .read-numbers .last .1 .0) x) (c .before .expected .given .1) (c .before .before .before .read-numbers .ensures)))); fits = tt }
 
 returns-3 : tie.Need-returns-3
-returns-3 c =
-    let room = (subst (λ (x : Items). ReadInto numberItem (now ((c .before .before .before .before .before .before .before .before .before) .args .rest)) (c .before .before .before .before .before .before .read-numbers .last .1 .0) x) (c .before .before .before .before .channels .given .1) (c .before .before .before .before .before .before .read-numbers .ensures)) .room in
-    ((c .before .before .before .before .before .before .before .before .before) .pre, omega (arith, room, c .before .before .before .before .before .before .read-numbers .kept .1 .0))
+returns-3 c = λ payload bytes events. record { is = sym (ap (channelsMeaning (take (c .before .before .before .before .before .before .before .before .before .args .lines) bytes)) (found-end _ _ _ (read-found numberItem (now (c .before .before .before .before .before .before .before .before .before .args .rest)) (c .before .before .before .before .before .before .read-numbers .last .1 .0) 64 (omega (arith, c .before .before .before .before .before .before .read-numbers .kept .1 .0)) (c .before .before .before .before .channels .given .0 .0) (c .before .before .before .before .channels .given .0 .1 .0) (now (c .before .before .back .result)) (subst (λ (x : Items). ReadInto numberItem (now (c .before .before .before .before .before .before .before .before .before .args .rest)) (c .before .before .before .before .before .before .read-numbers .last .1 .0) x) (c .before .before .before .before .channels .given .1) (c .before .before .before .before .before .before .read-numbers .ensures)) (c .before .before .back .ensures)) (blank (now (c .before .before .back .result)) (c .before .is-blank .result) (c .before .is-blank .ensures) (not-false (c .before .is-blank .result) (c .if1 .left))))); fits = (c .before .before .before .before .before .before .before .before .before .pre, omega (arith, (subst (λ (x : Items). ReadInto numberItem (now (c .before .before .before .before .before .before .before .before .before .args .rest)) (c .before .before .before .before .before .before .read-numbers .last .1 .0) x) (c .before .before .before .before .channels .given .1) (c .before .before .before .before .before .before .read-numbers .ensures)) .room, c .before .before .before .before .before .before .read-numbers .kept .1 .0)) }
 
 pub driven-spec : {M : Type 1} → statement M
 driven-spec =

@@ -1,10 +1,10 @@
 -- `items::is_over` meets its contract.
 -- Assumes nothing.
-use Rattle.notation.proofs.ItemLaws.{not-over}
-use lib.ListN.{length}
-use Prim.Native.Nat.{ℕ, _-_, _≤_}
-use mathlib.Core.List.{List}
-use mathlib.Core.Path.{subst}
+use Rattle.notation.proofs.SplitLaws.{same-word}
+use Rattle.notation.proofs.ItemLaws.{over-is}
+use Rattle.notation.specs.Items.{slash}
+use denote.Ref.{now}
+use Prim.Native.Nat.{_-_}
 use borrow.Author.Needs.{needs}
 use Rattle.notation.proofs.items.is_over.Statement.{statement}
 use Rattle.notation.proofs.items.is_over.Tie as tie
@@ -19,7 +19,7 @@ same-requires : tie.Need-same-requires
 same-requires c κs = search needs
 
 returns : tie.Need-returns
-returns c = λ e. subst (λ (l : List ℕ). 1 ≤ length l) (c .before .before .first-word .ensures) (not-over _ _ e)
+returns c = over-is (now (c .before .before .before .before .args .line)) (now (c .before .before .first-word .result)) (c .same .result) (c .before .before .first-word .ensures) (same-word (now (c .before .before .first-word .result)) slash (c .same .result) (c .same .ensures))
 
 pub is-over-spec : {M : Type 1} → statement M
 is-over-spec = tie.close (tie.spec first-word-requires slice-aggregate-same same-requires returns)

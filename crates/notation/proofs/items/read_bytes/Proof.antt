@@ -1,27 +1,28 @@
 -- `items::read_bytes` meets its contract: the items so far are those of the words passed.
 -- Assumes nothing.
-use borrow.Author.Tests.{not-true}
+use borrow.Author.Tests.{not-true, not-false}
 use Rattle.notation.specs.Words.{firstWord}
-use Rattle.notation.specs.Items.{InBuffer, byteItem}
-use Rattle.notation.proofs.ItemLaws.{no-items, item-more}
+use Rattle.notation.specs.Items.{byteItem}
+use Rattle.notation.proofs.ItemLaws.{Reading, reading-none, reading-over, reading-wrong, reading-full, reading-more, over-there, not-over}
 use borrow.Author.Needs.{needs}
 use native.Mathlib.Omega.{arith}
 use lib.ListN.{length, length-set, length-drop}
 use denote.Ref.{now}
 use Prim.Native.Nat.{ℕ, _-_, _≤_}
 use mathlib.Core.List.{List}
+use mathlib.Core.Bool.{false}
 use mathlib.Core.Path.{_≡_, refl, sym, ap, _∙_}
 use Rattle.notation.proofs.items.read_bytes.Statement.{statement}
 use Rattle.notation.proofs.items.read_bytes.Tie as tie
 
 abbrev Inv-loop : tie.InvT-loop
-Inv-loop line out₀ count₀ at₀ out count at = (length out ≡ length out₀) × InBuffer byteItem line out count at
+Inv-loop line out₀ count₀ at₀ out count at = (length out ≡ length out₀) × Reading byteItem line out count at
 
 abbrev μ-loop : tie.MeasureT-loop
 μ-loop line out₀ count₀ at₀ out count at = length line - at
 
 loop-holds : tie.Need-loop-holds Inv-loop μ-loop
-loop-holds c = (refl, no-items byteItem _ _)
+loop-holds c = (refl, reading-none byteItem _ _)
 
 back-requires : tie.Need-back-requires Inv-loop μ-loop
 back-requires c κs = c .loop .inv .1 .within
@@ -42,13 +43,17 @@ same-length : tie.Need-same-length Inv-loop μ-loop
 same-length c = c .before .before .before .before .before .before .before .loop .inv .0
 
 returns : tie.Need-returns Inv-loop μ-loop
-returns c = tt
+returns c =
+    let on = over-there (now (c .before .before .before .before .before .before .back .result)) (now (c .before .before .before .back2 .result)) _ (c .before .before .before .before .before .is-over .result) (c .before .before .before .before .before .before .back .ensures) (c .before .before .before .back2 .ensures) (c .before .before .before .before .before .is-over .ensures) (not-true _ (c .before .before .before .before .if1 .taken)) in
+    reading-wrong byteItem (now (c .before .before .before .before .before .before .before .before .before .before .args .line)) (c .before .before .before .before .before .before .before .loop .out) (c .before .before .before .before .before .before .before .loop .count) (c .before .before .before .before .before .before .before .loop .at) (c .before .before .before .before .before .before .before .loop .inv .1) (now (c .before .before .before .back2 .result)) (c .before .before .before .back2 .ensures) (c .before .hexadecimal .result) on (c .before .hexadecimal .ensures ∙ ap (byteItem .number) (c .before .before .first-word .ensures)) (c .if2 .taken)
 
 same-length-2 : tie.Need-same-length-2 Inv-loop μ-loop
 same-length-2 c = c .before .before .before .before .before .before .before .before .loop .inv .0
 
 returns-2 : tie.Need-returns-2 Inv-loop μ-loop
-returns-2 c = tt
+returns-2 c =
+    let on = over-there (now (c .before .before .before .before .before .before .before .back .result)) (now (c .before .before .before .before .back2 .result)) _ (c .before .before .before .before .before .before .is-over .result) (c .before .before .before .before .before .before .before .back .ensures) (c .before .before .before .before .back2 .ensures) (c .before .before .before .before .before .before .is-over .ensures) (not-true _ (c .before .before .before .before .before .if1 .taken)) in
+    reading-full byteItem (now (c .before .before .before .before .before .before .before .before .before .before .before .args .line)) (c .before .before .before .before .before .before .before .before .loop .out) (c .before .before .before .before .before .before .before .before .loop .count) (c .before .before .before .before .before .before .before .before .loop .at) (c .before .before .before .before .before .before .before .before .loop .inv .1) (now (c .before .before .before .before .back2 .result)) (c .before .before .before .before .back2 .ensures) (c .before .before .hexadecimal .result) on (c .before .before .hexadecimal .ensures ∙ ap (byteItem .number) (c .before .before .before .first-word .ensures)) (c .before .if2 .left) (c .if3 .taken)
 
 cast-out : tie.Need-cast-out Inv-loop μ-loop
 cast-out c = omega arith
@@ -63,25 +68,27 @@ word-end-requires : tie.Need-word-end-requires Inv-loop μ-loop
 word-end-requires c κs = search needs
 
 add-at : tie.Need-add-at Inv-loop μ-loop
-add-at c = omega (arith, c .word-end .ensures .within, ap length (c .before .before .before .before .before .back2 .ensures), length-drop (c .before .before .before .before .before .before .before .before .before .loop .at) (now ((c .before .before .before .before .before .before .before .before .before .before .before .before) .args .line)), c .before .before .before .before .before .before .before .before .before .loop .inv .1 .within)
+add-at c = omega (arith, c .word-end .ensures .within, ap length (c .before .before .before .before .before .back2 .ensures), length-drop (c .before .before .before .before .before .before .before .before .before .loop .at) (now (c .before .before .before .before .before .before .before .before .before .before .before .before .args .line)), c .before .before .before .before .before .before .before .before .before .loop .inv .1 .within)
 
 loop-less : tie.Need-loop-less Inv-loop μ-loop
 loop-less c =
-    let past : 1 ≤ c .word-end .result = omega (arith, c .before .before .before .before .before .before .before .is-over .ensures (not-true _ (c .before .before .before .before .before .before .if1 .taken)), ap (λ (l : List ℕ). length (firstWord l)) (c .before .before .before .before .before .before .before .before .back .ensures ∙ sym (c .before .before .before .before .before .back2 .ensures)), c .word-end .ensures .past) in
-    omega (arith, past, c .word-end .ensures .within, ap length (c .before .before .before .before .before .back2 .ensures), length-drop (c .before .before .before .before .before .before .before .before .before .loop .at) (now ((c .before .before .before .before .before .before .before .before .before .before .before .before) .args .line)), c .before .before .before .before .before .before .before .before .before .loop .inv .1 .within)
+    let on = over-there (now (c .before .before .before .before .before .before .before .before .back .result)) (now (c .before .before .before .before .before .back2 .result)) _ (c .before .before .before .before .before .before .before .is-over .result) (c .before .before .before .before .before .before .before .before .back .ensures) (c .before .before .before .before .before .back2 .ensures) (c .before .before .before .before .before .before .before .is-over .ensures) (not-true _ (c .before .before .before .before .before .before .if1 .taken)) in
+    let word : length (firstWord (now (c .before .before .before .before .before .back2 .result))) ≡ 0 → ⊥ = not-over (now (c .before .before .before .before .before .back2 .result)) on in
+    let past : 1 ≤ c .word-end .result = omega (arith, word, c .word-end .ensures .past) in
+    omega (arith, past, c .word-end .ensures .within, ap length (c .before .before .before .before .before .back2 .ensures), length-drop (c .before .before .before .before .before .before .before .before .before .loop .at) (now (c .before .before .before .before .before .before .before .before .before .before .before .before .args .line)), c .before .before .before .before .before .before .before .before .before .loop .inv .1 .within)
 
 loop-again : tie.Need-loop-again Inv-loop μ-loop
-loop-again c = (
-  simp length-set (c .before .before .before .before .before .before .before .before .before .loop .inv .0),
-  item-more byteItem (now ((c .before .before .before .before .before .before .before .before .before .before .before .before) .args .line)) (c .before .before .before .before .before .before .before .before .before .loop .out) (c .before .before .before .before .before .before .before .before .before .loop .count) (c .before .before .before .before .before .before .before .before .before .loop .at) _ _ (now (c .before .before .before .before .before .back2 .result)) (c .before .before .before .before .before .before .before .before .before .loop .inv .1) (c .before .if3 .left) (c .before .before .before .before .before .back2 .ensures)
-      (c .before .before .before .hexadecimal .ensures ∙ ap byteItem (c .before .before .before .before .first-word .ensures)) (c .word-end .ensures),
-)
+loop-again c =
+    let on = over-there (now (c .before .before .before .before .before .before .before .before .back .result)) (now (c .before .before .before .before .before .back2 .result)) _ (c .before .before .before .before .before .before .before .is-over .result) (c .before .before .before .before .before .before .before .before .back .ensures) (c .before .before .before .before .before .back2 .ensures) (c .before .before .before .before .before .before .before .is-over .ensures) (not-true _ (c .before .before .before .before .before .before .if1 .taken)) in (
+      simp length-set (c .before .before .before .before .before .before .before .before .before .loop .inv .0),
+      reading-more byteItem (now (c .before .before .before .before .before .before .before .before .before .before .before .before .args .line)) (c .before .before .before .before .before .before .before .before .before .loop .out) (c .before .before .before .before .before .before .before .before .before .loop .count) (c .before .before .before .before .before .before .before .before .before .loop .at) (c .before .before .before .before .before .before .before .before .before .loop .inv .1) (now (c .before .before .before .before .before .back2 .result)) (c .before .before .before .before .before .back2 .ensures) (c .before .before .before .hexadecimal .result) (c .word-end .result) _ on (c .before .before .before .hexadecimal .ensures ∙ ap (byteItem .number) (c .before .before .before .before .first-word .ensures)) (c .before .before .if2 .left) (c .before .if3 .left) refl (c .word-end .ensures),
+    )
 
 same-length-3 : tie.Need-same-length-3 Inv-loop μ-loop
 same-length-3 c = c .before .before .before .loop .inv .0
 
 returns-3 : tie.Need-returns-3 Inv-loop μ-loop
-returns-3 c = c .before .before .before .loop .inv .1
+returns-3 c = reading-over byteItem (now (c .before .before .before .before .before .before .args .line)) (c .before .before .before .loop .out) (c .before .before .before .loop .count) (c .before .before .before .loop .at) (c .before .before .before .loop .inv .1) (now (c .before .before .back .result)) (c .before .before .back .ensures) (sym (c .before .is-over .ensures) ∙ not-false _ (c .if1 .left))
 
 pub read-bytes-spec : {M : Type 1} → statement M
 read-bytes-spec =

@@ -1,0 +1,55 @@
+-- `calls::command_to` meets its contract.
+-- Assumes nothing.
+use Rattle.notation.proofs.MeaningLaws.{named-all, named-small, named-more, named-is}
+use borrow.Author.Tests.{not-true, not-false}
+use denote.Ref.{now}
+use Prim.Native.Nat.{_-_}
+use mathlib.Core.Path.{sym}
+use borrow.Author.Needs.{needs}
+use Rattle.notation.proofs.calls.command_to.Statement.{statement}
+use Rattle.notation.proofs.calls.command_to.Tie as tie
+
+is-blank-requires : tie.Need-is-blank-requires
+is-blank-requires c κs = search needs
+
+returns : tie.Need-returns
+returns c = λ payload bytes numbers events. record { is = sym (named-all (c .before .before .before .args .code) (now (c .before .before .before .args .rest)) (c .before .is-blank .result) (c .before .is-blank .ensures) (c .if1 .taken)); fits = tt }
+
+first-word-requires : tie.Need-first-word-requires
+first-word-requires c κs = search needs
+
+decimal-requires : tie.Need-decimal-requires
+decimal-requires c κs = search needs
+
+returns-2 : tie.Need-returns-2
+returns-2 c = λ payload bytes numbers events. record { is = sym (named-small (c .before .before .before .before .before .before .args .code) (now (c .before .before .before .before .before .before .args .rest)) (c .before .before .before .before .is-blank .result) (c .before .before .before .before .is-blank .ensures) (c .before .before .before .if1 .left) (now (c .before .before .first-word .result)) (c .before .decimal .result) (c .before .decimal .ensures) (c .before .before .first-word .ensures) (c .if2 .taken)); fits = tt }
+
+after-word-requires : tie.Need-after-word-requires
+after-word-requires c κs = search needs
+
+is-blank-requires-2 : tie.Need-is-blank-requires-2
+is-blank-requires-2 c κs = search needs
+
+returns-3 : tie.Need-returns-3
+returns-3 c = λ payload bytes numbers events. record { is = sym (named-more (c .before .before .before .before .before .before .before .before .before .args .code) (now (c .before .before .before .before .before .before .before .before .before .args .rest)) (c .before .before .before .before .before .before .before .is-blank .result) (c .before .before .before .before .before .before .before .is-blank .ensures) (c .before .before .before .before .before .before .if1 .left) (now (c .before .before .before .before .before .first-word .result)) (c .before .before .before .before .decimal .result) (c .before .before .before .before .decimal .ensures) (c .before .before .before .before .before .first-word .ensures) (now (c .before .before .after-word .result)) (c .before .before .after-word .ensures) (c .before .before .before .if2 .left) (c .before .is-blank2 .result) (c .before .is-blank2 .ensures) (not-true (c .before .is-blank2 .result) (c .if3 .taken))); fits = tt }
+
+cast-t11 : tie.Need-cast-t11
+cast-t11 c = search needs
+
+returns-4 : tie.Need-returns-4
+returns-4 c = λ payload bytes numbers events. record { is = sym (named-is (c .before .before .before .before .before .before .before .before .before .args .code) (now (c .before .before .before .before .before .before .before .before .before .args .rest)) (c .before .before .before .before .before .before .before .is-blank .result) (c .before .before .before .before .before .before .before .is-blank .ensures) (c .before .before .before .before .before .before .if1 .left) (now (c .before .before .before .before .before .first-word .result)) (c .before .before .before .before .decimal .result) (c .before .before .before .before .decimal .ensures) (c .before .before .before .before .before .first-word .ensures) (now (c .before .before .after-word .result)) (c .before .before .after-word .ensures) (c .before .before .before .if2 .left) (c .before .is-blank2 .result) (c .before .is-blank2 .ensures) (not-false (c .before .is-blank2 .result) (c .if3 .left))); fits = tt }
+
+pub command-to-spec : {M : Type 1} → statement M
+command-to-spec =
+    tie.close
+    (tie.spec
+    is-blank-requires
+    returns
+    first-word-requires
+    decimal-requires
+    returns-2
+    after-word-requires
+    is-blank-requires-2
+    returns-3
+    cast-t11
+    returns-4)

@@ -1,0 +1,78 @@
+-- `calls::understand` meets its contract.
+-- Assumes nothing.
+use Rattle.notation.specs.Ascii.{ascii}
+use Rattle.notation.specs.Words.{isWord}
+use Rattle.notation.specs.Meanings.{wordsMeaning}
+use Rattle.notation.proofs.SplitLaws.{same-word}
+use Rattle.notation.proofs.MeaningLaws.{yes, no, says-as}
+use Rattle.notation.proofs.AccessLaws.{means-nothing, means}
+use denote.Ref.{now}
+use Prim.Native.Nat.{_-_}
+use mathlib.Core.Path.{sym, _∙_}
+use borrow.Author.Needs.{needs}
+use Rattle.notation.proofs.calls.understand.Statement.{statement}
+use Rattle.notation.proofs.calls.understand.Tie as tie
+
+content-requires : tie.Need-content-requires
+content-requires c κs = search needs
+
+first-word-requires : tie.Need-first-word-requires
+first-word-requires c κs = search needs
+
+after-word-requires : tie.Need-after-word-requires
+after-word-requires c κs = search needs
+
+returns : tie.Need-returns
+returns c = record { is = sym (means-nothing (now (c .before .before .before .before .before .args .line)) (now (c .before .before .before .content .result)) (now (c .before .before .first-word .result)) (now (c .before .after-word .result)) (c .before .before .before .content .ensures) (c .before .before .first-word .ensures) (c .before .after-word .ensures) (c .if1 .taken)); fits = tt }
+
+slice-aggregate-same : tie.Need-slice-aggregate-same
+slice-aggregate-same c = search needs
+
+same-requires : tie.Need-same-requires
+same-requires c κs = search needs
+
+sample-requires : tie.Need-sample-requires
+sample-requires c κs = c .before .before .before .before .before .before .before .before .before .before .before .pre .2
+
+returns-2 : tie.Need-returns-2
+unfolding wordsMeaning
+returns-2 c = says-as (means (now (c .before .before .before .before .before .before .before .before .before .before .before .before .args .line)) (now (c .before .before .before .before .before .before .before .before .before .before .content .result)) (now (c .before .before .before .before .before .before .before .before .before .first-word .result)) (now (c .before .before .before .before .before .before .before .before .after-word .result)) (c .before .before .before .before .before .before .before .before .before .before .content .ensures) (c .before .before .before .before .before .before .before .before .before .first-word .ensures) (c .before .before .before .before .before .before .before .before .after-word .ensures) (c .before .before .before .before .before .before .before .if1 .left) ∙ yes (isWord (now (c .before .before .before .before .before .before .before .before .before .first-word .result)) (ascii "sample")) _ _ (sym (same-word (now (c .before .before .before .before .before .before .before .before .before .first-word .result)) (ascii "sample") (c .before .before .before .before .before .same .result) (c .before .before .before .before .before .same .ensures)) ∙ c .before .before .before .before .if2 .taken)) (c .sample .ensures _)
+
+slice-aggregate-same-2 : tie.Need-slice-aggregate-same-2
+slice-aggregate-same-2 c = search needs
+
+same-requires-2 : tie.Need-same-requires-2
+same-requires-2 c κs = search needs
+
+drive-requires : tie.Need-drive-requires
+drive-requires c κs = (c .before .before .before .before .before .before .before .before .before .before .before .before .before .pre .0, c .before .before .before .before .before .before .before .before .before .before .before .before .before .pre .1)
+
+returns-3 : tie.Need-returns-3
+unfolding wordsMeaning
+returns-3 c = says-as (means (now (c .before .before .before .before .before .before .before .before .before .before .before .before .before .before .args .line)) (now (c .before .before .before .before .before .before .before .before .before .before .before .before .content .result)) (now (c .before .before .before .before .before .before .before .before .before .before .before .first-word .result)) (now (c .before .before .before .before .before .before .before .before .before .before .after-word .result)) (c .before .before .before .before .before .before .before .before .before .before .before .before .content .ensures) (c .before .before .before .before .before .before .before .before .before .before .before .first-word .ensures) (c .before .before .before .before .before .before .before .before .before .before .after-word .ensures) (c .before .before .before .before .before .before .before .before .before .if1 .left) ∙ no (isWord (now (c .before .before .before .before .before .before .before .before .before .before .before .first-word .result)) (ascii "sample")) _ _ (sym (same-word (now (c .before .before .before .before .before .before .before .before .before .before .before .first-word .result)) (ascii "sample") (c .before .before .before .before .before .before .before .same .result) (c .before .before .before .before .before .before .before .same .ensures)) ∙ c .before .before .before .before .before .before .if2 .left) ∙ yes (isWord (now (c .before .before .before .before .before .before .before .before .before .before .before .first-word .result)) (ascii "drive")) _ _ (sym (same-word (now (c .before .before .before .before .before .before .before .before .before .before .before .first-word .result)) (ascii "drive") (c .before .before .before .before .same2 .result) (c .before .before .before .before .same2 .ensures)) ∙ c .before .before .before .if3 .taken)) (c .drive .ensures _ _)
+
+plain-call-requires : tie.Need-plain-call-requires
+plain-call-requires c κs = search needs
+
+returns-4 : tie.Need-returns-4
+unfolding wordsMeaning
+returns-4 c = says-as (means (now (c .before .before .before .before .before .before .before .before .before .before .before .before .before .args .line)) (now (c .before .before .before .before .before .before .before .before .before .before .before .content .result)) (now (c .before .before .before .before .before .before .before .before .before .before .first-word .result)) (now (c .before .before .before .before .before .before .before .before .before .after-word .result)) (c .before .before .before .before .before .before .before .before .before .before .before .content .ensures) (c .before .before .before .before .before .before .before .before .before .before .first-word .ensures) (c .before .before .before .before .before .before .before .before .before .after-word .ensures) (c .before .before .before .before .before .before .before .before .if1 .left) ∙ no (isWord (now (c .before .before .before .before .before .before .before .before .before .before .first-word .result)) (ascii "sample")) _ _ (sym (same-word (now (c .before .before .before .before .before .before .before .before .before .before .first-word .result)) (ascii "sample") (c .before .before .before .before .before .before .same .result) (c .before .before .before .before .before .before .same .ensures)) ∙ c .before .before .before .before .before .if2 .left) ∙ no (isWord (now (c .before .before .before .before .before .before .before .before .before .before .first-word .result)) (ascii "drive")) _ _ (sym (same-word (now (c .before .before .before .before .before .before .before .before .before .before .first-word .result)) (ascii "drive") (c .before .before .before .same2 .result) (c .before .before .before .same2 .ensures)) ∙ c .before .before .if3 .left)) (c .plain-call .ensures _ _ _)
+
+pub understand-spec : {M : Type 1} → statement M
+understand-spec =
+    tie.close
+    (tie.spec
+    content-requires
+    first-word-requires
+    after-word-requires
+    returns
+    slice-aggregate-same
+    same-requires
+    sample-requires
+    returns-2
+    slice-aggregate-same-2
+    same-requires-2
+    drive-requires
+    returns-3
+    plain-call-requires
+    returns-4)
