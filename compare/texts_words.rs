@@ -1,0 +1,145 @@
+//! A call as the words of a line, in every way the notation lets it be spelled, and words that are
+//! wrong in most places.
+
+use crate::calls::{Call, Cause};
+use crate::lists::Random;
+
+pub type Word = Vec<u8>;
+
+/// Numbers at the edges of their types, entries and bytes with too many or no digits, words of
+/// other calls, and bytes that are no part of the notation.
+const ODD_WORDS: [&[u8]; 96] = [
+    b"-32769", b"-32768", b"-32767", b"32767", b"32768", b"65535", b"65536", b"-65536", b"127", b"128", b"254",
+    b"255", b"256", b"257", b"261", b"-1", b"-0", b"-00", b"-5", b"--5", b"5-", b"-", b"+", b"+0", b"+5", b"0",
+    b"00", b"000", b"0005", b"4294967295", b"4294967296", b"4294967301", b"-4294967297", b"9223372036854775808",
+    b"18446744073709551616", b"18446744073709551621", b"-18446744073709551617", b"0x10", b"1.5", b"1,000", b"1e3",
+    b"1_0", b"6200:", b":1", b":", b"6200::1", b"6200:1:1", b"6200:100", b"6200:001", b"6200:-1", b"6200:+1",
+    b"6200:g", b"06200:1", b"06200", b"16200:1", b"620g:1", b"6200;1", b"6200.1", b"6200:1=", b"=6200:1", b"ADD",
+    b"f", b"FG", b"G", b"100", b"0FF", b"0xF", b"Fh", b"..", b"=", b"==", b"=01", b"01=", b"/", b"//", b"/1", b"1/",
+    b"#", b"##x", b"start", b"drive", b"internal", b"communication", b"interna", b"internals", b"all", b"Internal",
+    b"pre-", b"reset", b"reset_node", b"\t", b"\r", b"\0", b"\x0B", b"\xFF\xFE", b"\xC2\xA0",
+];
+
+pub fn odd_word(random: &mut Random) -> Word {
+    let many = 1 + random.below(400);
+    match random.below(40) {
+        0 => vec![b'9'; many],
+        1 => [vec![b'0'; many], b"7".to_vec()].concat(),
+        2 => [b"-".to_vec(), vec![b'0'; many], b"7".to_vec()].concat(),
+        3 => vec![random.next() as u8],
+        4 => decimal(random.below(300) as i32, random),
+        _ => random.pick(&ODD_WORDS).to_vec(),
+    }
+}
+
+/// At least the digits the value needs, at most `most`, in either case.
+fn hexadecimal(value: u32, most: usize, random: &mut Random) -> Word {
+    let needed = (1..most).find(|digits| value >> (4 * digits) == 0).unwrap_or(most);
+    let digits = if random.chance(80) { most } else { needed + random.below(most - needed + 1) };
+    let mut word = format!("{value:0digits$x}").into_bytes();
+    word.iter_mut().filter(|_| random.chance(50)).for_each(|digit| digit.make_ascii_uppercase());
+    word
+}
+
+fn decimal(value: i32, random: &mut Random) -> Word {
+    let sign = if value < 0 { "-" } else { "" };
+    let zeros = if random.chance(3) { random.below(30) } else { 0 };
+    format!("{sign}{}{}", "0".repeat(zeros), value.unsigned_abs()).into_bytes()
+}
+
+fn bytes(items: &[u8], random: &mut Random) -> Vec<Word> {
+    items.iter().map(|byte| hexadecimal(u32::from(*byte), 2, random)).collect()
+}
+
+fn numbers(items: &[i16], random: &mut Random) -> Vec<Word> {
+    items.iter().map(|number| signed(*number, random)).collect()
+}
+
+fn signed(number: i16, random: &mut Random) -> Word {
+    if number == 0 && random.chance(1) {
+        return b"-0".to_vec();
+    }
+    decimal(i32::from(number), random)
+}
+
+/// A buffer now and then gets a length up to two above what the notation allows.
+fn resized<T: Copy>(part: &[T], filler: T, random: &mut Random) -> Vec<T> {
+    let mut items = part.to_vec();
+    if random.chance(3) {
+        let any = random.below(67);
+        let length = random.pick(&[any, any, 0, 63, 64, 65]);
+        items.resize(length, filler);
+    }
+    items
+}
+
+fn entry(index: u16, sub: u8, random: &mut Random) -> Word {
+    let mut word = hexadecimal(u32::from(index), 4, random);
+    if sub != 0 || random.chance(50) {
+        word.push(b':');
+        word.extend(hexadecimal(u32::from(sub), if random.chance(70) && sub < 16 { 1 } else { 2 }, random));
+    }
+    word
+}
+
+fn command(code: u8, node: u8, random: &mut Random) -> Vec<Word> {
+    let name: &[u8] = match code {
+        1 => b"start",
+        2 => b"stop",
+        128 => b"pre-operational",
+        129 => b"reset-node",
+        130 => b"reset-communication",
+        _ => b"command",
+    };
+    let node_word = decimal(i32::from(node), random);
+    if name == b"command" || random.chance(30) {
+        return vec![b"command".to_vec(), decimal(i32::from(code), random), node_word];
+    }
+    if node == 0 && random.chance(60) {
+        return vec![name.to_vec()];
+    }
+    vec![name.to_vec(), node_word]
+}
+
+fn cause(cause: Cause) -> Word {
+    match cause {
+        Cause::InternalFailure => b"internal".to_vec(),
+        Cause::CommunicationLoss => b"communication".to_vec(),
+    }
+}
+
+pub fn create(number: u8, random: &mut Random) -> Vec<Word> {
+    vec![b"create".to_vec(), decimal(i32::from(number), random)]
+}
+
+/// The words of a call; lent buffers that the notation may leave out are left out at times.
+pub fn words_of(call: &Call, random: &mut Random) -> Vec<Word> {
+    let slash = || vec![b"/".to_vec()];
+    match call {
+        Call::Read { index, sub } => vec![entry(*index, *sub, random)],
+        Call::Write { index, sub, data } => {
+            let data = resized(data.part(), 0xA5, random);
+            [vec![entry(*index, *sub, random), b"=".to_vec()], bytes(&data, random)].concat()
+        }
+        Call::Sample { digital, analogue, events } => {
+            let digital = resized(digital.part(), 0xFF, random);
+            let analogue = resized(analogue.part(), -7, random);
+            let mut words =
+                [vec![b"sample".to_vec()], bytes(&digital, random), slash(), numbers(&analogue, random)].concat();
+            if random.chance(40) {
+                let events = resized(events.part(), 0x3C, random);
+                words.extend([slash(), bytes(&events, random)].concat());
+            }
+            words
+        }
+        Call::Command { code, node } => command(*code, *node, random),
+        Call::Raise(named) => vec![b"raise".to_vec(), cause(*named)],
+        Call::Clear(named) => vec![b"clear".to_vec(), cause(*named)],
+        Call::Drive { .. } if random.chance(50) => vec![b"drive".to_vec()],
+        Call::Drive { lines, channels } => {
+            let lines = resized(lines.part(), 0x99, random);
+            let channels = resized(channels.part(), 300, random);
+            [vec![b"drive".to_vec()], bytes(&lines, random), slash(), numbers(&channels, random)].concat()
+        }
+    }
+}
