@@ -1,0 +1,119 @@
+//! Plays random lists of text on the notation's own front end over paper.rs and on the program
+//! `play`, and compares what both answer, line by line.
+
+// The other harness uses more of these.
+#[allow(dead_code)]
+mod calls;
+#[allow(dead_code)]
+mod lists;
+mod notation;
+mod paper;
+mod paper_machines;
+mod paper_objects;
+mod play_expected;
+mod play_program;
+mod texts;
+mod texts_words;
+
+use play_expected::{expected_of, Expected, Tally};
+use play_program::{feed_of, output_of};
+
+const MOST_SHOWN: u64 = 20;
+const MOST_BYTES_SHOWN: usize = 300;
+
+/// What is counted over all lists.
+#[derive(Default)]
+struct Report {
+    tally: Tally,
+    lists: u64,
+    differences: u64,
+}
+
+fn shown(bytes: &[u8]) -> String {
+    let cut = &bytes[..bytes.len().min(MOST_BYTES_SHOWN)];
+    let more = if cut.len() < bytes.len() { format!(" .. {} bytes", bytes.len()) } else { String::new() };
+    format!("{}{more}", cut.escape_ascii())
+}
+
+impl Report {
+    fn differ(&mut self, seed: u64, what: &str) {
+        self.differences += 1;
+        if self.differences <= MOST_SHOWN {
+            println!("differs: list {seed}, {what}");
+        }
+    }
+
+    fn compare_line(&mut self, seed: u64, list: &[u8], expected: &Expected, wrote: &[u8]) -> bool {
+        if expected.is_met_by(wrote) {
+            return true;
+        }
+        let text = notation::lines_of(list).nth(expected.line - 1).unwrap_or(b"");
+        let what = format!(
+            "line {}: {}\n  expected {} {:?}\n  play     {}",
+            expected.line,
+            shown(text),
+            shown(expected.answer.as_bytes()),
+            expected.words,
+            shown(wrote)
+        );
+        self.differ(seed, &what);
+        false
+    }
+
+    fn compare(&mut self, seed: u64, list: &[u8], output: &[u8], expected: &[Expected], totals: &str) {
+        let Some(body) = output.strip_suffix(b"\n") else {
+            return self.differ(seed, "the output does not end with a newline");
+        };
+        let wrote: Vec<&[u8]> = body.split(|byte| *byte == b'\n').collect();
+        let same_number = wrote.len() == expected.len() + 2;
+        if !same_number {
+            let what = format!("{} lines expected, play wrote {}", expected.len() + 2, wrote.len());
+            self.differ(seed, &what);
+        }
+        for (expected, wrote) in expected.iter().zip(&wrote) {
+            // Once a line is missing or too many, the lines after it say nothing.
+            if !self.compare_line(seed, list, expected, wrote) && !same_number {
+                return;
+            }
+        }
+        if same_number && wrote[expected.len()..] != [b"".as_slice(), totals.as_bytes()] {
+            let ends: Vec<String> = wrote[expected.len()..].iter().map(|line| shown(line)).collect();
+            self.differ(seed, &format!("its end\n  expected an empty line and {totals}\n  play     {ends:?}"));
+        }
+    }
+
+    fn play_list(&mut self, program: &str, seed: u64) {
+        let list = texts::list_of(seed);
+        let (expected, tally) = expected_of(&list);
+        self.tally.add(&tally);
+        self.lists += 1;
+        let before = self.differences;
+        match output_of(program, &list, feed_of(seed, list.len()), seed) {
+            Ok(output) => self.compare(seed, &list, &output, &expected, &tally.last_line()),
+            Err(what) => self.differ(seed, &format!("the program: {what}")),
+        }
+        if self.differences > before {
+            // The list is kept for whoever looks for the cause; without it the seed is enough.
+            let _ = std::fs::write(format!("target/compare/differs-{seed}.list"), &list);
+        }
+    }
+}
+
+fn main() {
+    let usage = "usage: play-compare PROGRAM THOUSANDS [SEED]";
+    let mut arguments = std::env::args().skip(1);
+    let program = arguments.next().expect(usage);
+    let thousands: u64 = arguments.next().and_then(|n| n.parse().ok()).expect(usage);
+    let first: u64 = arguments.next().map_or(1, |seed| seed.parse().expect("a seed is a number"));
+    let mut report = Report::default();
+    let mut seed = first;
+    while report.tally.lines < thousands * 1000 {
+        report.play_list(&program, seed);
+        seed += 1;
+    }
+    let Tally { lines, passed_over, calls, refused, not_understood } = report.tally;
+    print!("play-run: {lines} lines in {} lists (seeds {first} to {}), ", report.lists, seed - 1);
+    print!("{calls} calls, {refused} refused, {not_understood} not understood, {passed_over} passed over: ");
+    println!("{} differ", if report.differences == 0 { "none".into() } else { report.differences.to_string() });
+    std::process::exit(i32::from(report.differences > 0));
+}
