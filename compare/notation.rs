@@ -70,7 +70,8 @@ fn call_of(words: &[&[u8]]) -> Option<Asked> {
         }
         (entry, [b"=", data @ ..]) => {
             let (index, sub) = entry_named(entry)?;
-            Some(Asked::Write { index, sub, data: buffer_of(data, data_byte)? })
+            // The row says any number of bytes; only the line's length bounds them.
+            Some(Asked::Write { index, sub, data: items_of(data, data_byte)? })
         }
         _ => None,
     }
@@ -125,6 +126,10 @@ fn buffer_of<T>(words: &[&[u8]], item: fn(&[u8]) -> Option<T>) -> Option<Vec<T>>
     if words.len() > MOST_ITEMS_OF_A_BUFFER {
         return None;
     }
+    items_of(words, item)
+}
+
+fn items_of<T>(words: &[&[u8]], item: fn(&[u8]) -> Option<T>) -> Option<Vec<T>> {
     words.iter().map(|word| item(word)).collect()
 }
 

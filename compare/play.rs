@@ -114,6 +114,9 @@ fn main() {
     let Tally { lines, passed_over, calls, refused, not_understood } = report.tally;
     print!("play-run: {lines} lines in {} lists (seeds {first} to {}), ", report.lists, seed - 1);
     print!("{calls} calls, {refused} refused, {not_understood} not understood, {passed_over} passed over: ");
-    println!("{} differ", if report.differences == 0 { "none".into() } else { report.differences.to_string() });
+    match report.differences {
+        0 => println!("none differs"),
+        many => println!("{many} differ"),
+    }
     std::process::exit(i32::from(report.differences > 0));
 }

@@ -118,7 +118,10 @@ pub fn words_of(call: &Call, random: &mut Random) -> Vec<Word> {
     match call {
         Call::Read { index, sub } => vec![entry(*index, *sub, random)],
         Call::Write { index, sub, data } => {
-            let data = resized(data.part(), 0xA5, random);
+            let mut data = resized(data.part(), 0xA5, random);
+            if random.chance(1) {
+                data.resize(random.below(520), 0x0A);
+            }
             [vec![entry(*index, *sub, random), b"=".to_vec()], bytes(&data, random)].concat()
         }
         Call::Sample { digital, analogue, events } => {
