@@ -1,6 +1,7 @@
 //! Random lists as text: calls spelled in every way, empty lines and comments, lines at the length
 //! limit, and lines spoiled word by word or byte by byte. The same seed makes the same list.
 
+use crate::calls::Call;
 use crate::lists::{Random, Source};
 use crate::texts_words::{create, odd_word, words_of, Word};
 
@@ -65,7 +66,14 @@ impl Texts {
             let number = self.random.pick(&[self.source.number(), any & 127, any, 0, 127, 128]);
             return create(number, &mut self.random);
         }
-        words_of(&self.source.call(), &mut self.random)
+        let mut call = self.source.call();
+        if let Call::Command { node, .. } = &mut call {
+            // A list without create plays on node 1, and a refused create leaves node 127.
+            if self.random.chance(30) {
+                *node = self.random.pick(&[1, 127]);
+            }
+        }
+        words_of(&call, &mut self.random)
     }
 
     /// Mostly single spaces; at times several, also before and after, and a comment.
