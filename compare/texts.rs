@@ -188,11 +188,8 @@ impl Texts {
             return;
         }
         let at = self.random.below(line.len());
-        let byte = if self.random.chance(80) {
-            self.random.pick(TELLING_BYTES)
-        } else {
-            self.random.next() as u8
-        };
+        let byte =
+            if self.random.chance(80) { self.random.pick(TELLING_BYTES) } else { self.random.next() as u8 };
         match self.random.below(4) {
             0 => drop(line.remove(at)),
             1 => line.insert(at, line[at]),
