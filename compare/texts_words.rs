@@ -7,18 +7,13 @@ use crate::lists::Random;
 pub type Word = Vec<u8>;
 
 /// Numbers at the edges of their types, entries and bytes with too many or no digits, words of
-/// other calls, and bytes that are no part of the notation.
-const ODD_WORDS: [&[u8]; 96] = [
-    b"-32769", b"-32768", b"-32767", b"32767", b"32768", b"65535", b"65536", b"-65536", b"127", b"128", b"254",
-    b"255", b"256", b"257", b"261", b"-1", b"-0", b"-00", b"-5", b"--5", b"5-", b"-", b"+", b"+0", b"+5", b"0",
-    b"00", b"000", b"0005", b"4294967295", b"4294967296", b"4294967301", b"-4294967297", b"9223372036854775808",
-    b"18446744073709551616", b"18446744073709551621", b"-18446744073709551617", b"0x10", b"1.5", b"1,000", b"1e3",
-    b"1_0", b"6200:", b":1", b":", b"6200::1", b"6200:1:1", b"6200:100", b"6200:001", b"6200:-1", b"6200:+1",
-    b"6200:g", b"06200:1", b"06200", b"16200:1", b"620g:1", b"6200;1", b"6200.1", b"6200:1=", b"=6200:1", b"ADD",
-    b"f", b"FG", b"G", b"100", b"0FF", b"0xF", b"Fh", b"..", b"=", b"==", b"=01", b"01=", b"/", b"//", b"/1", b"1/",
-    b"#", b"##x", b"start", b"drive", b"internal", b"communication", b"interna", b"internals", b"all", b"Internal",
-    b"pre-", b"reset", b"reset_node", b"\t", b"\r", b"\0", b"\x0B", b"\xFF\xFE", b"\xC2\xA0",
-];
+/// other calls, and bytes that are no part of the notation; a space stands between two.
+const ODD_WORDS: &[u8] = b"-32769 -32768 -32767 32767 32768 65535 65536 -65536 127 128 254 255 256 257 261 \
+    -1 -0 -00 -5 --5 5- - + +0 +5 0 00 000 0005 4294967295 4294967296 4294967301 -4294967297 \
+    9223372036854775808 18446744073709551616 18446744073709551621 -18446744073709551617 0x10 1.5 1,000 1e3 1_0 \
+    6200: :1 : 6200::1 6200:1:1 6200:100 6200:001 6200:-1 6200:+1 6200:g 06200:1 06200 16200:1 620g:1 6200;1 \
+    6200.1 6200:1= =6200:1 ADD f FG G 100 0FF 0xF Fh .. = == =01 01= / // /1 1/ # ##x start drive internal \
+    communication interna internals all Internal pre- reset reset_node \t \r \0 \x0B \xFF\xFE \xC2\xA0";
 
 pub fn odd_word(random: &mut Random) -> Word {
     let many = 1 + random.below(400);
@@ -28,7 +23,10 @@ pub fn odd_word(random: &mut Random) -> Word {
         2 => [b"-".to_vec(), vec![b'0'; many], b"7".to_vec()].concat(),
         3 => vec![random.next() as u8],
         4 => decimal(random.below(300) as i32, random),
-        _ => random.pick(&ODD_WORDS).to_vec(),
+        _ => {
+            let words: Vec<&[u8]> = ODD_WORDS.split(|byte| *byte == b' ').collect();
+            random.pick(&words).to_vec()
+        }
     }
 }
 
@@ -128,7 +126,8 @@ pub fn words_of(call: &Call, random: &mut Random) -> Vec<Word> {
             let digital = resized(digital.part(), 0xFF, random);
             let analogue = resized(analogue.part(), -7, random);
             let mut words =
-                [vec![b"sample".to_vec()], bytes(&digital, random), slash(), numbers(&analogue, random)].concat();
+                [vec![b"sample".to_vec()], bytes(&digital, random), slash(), numbers(&analogue, random)]
+                    .concat();
             if random.chance(40) {
                 let events = resized(events.part(), 0x3C, random);
                 words.extend([slash(), bytes(&events, random)].concat());
