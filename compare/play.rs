@@ -49,6 +49,11 @@ impl Report {
         if expected.is_met_by(wrote) {
             return true;
         }
+        if self.differences >= MOST_SHOWN {
+            // Looking up the line's text takes a walk over the list, so it is done for shown ones alone.
+            self.differences += 1;
+            return false;
+        }
         let text = notation::lines_of(list).nth(expected.line - 1).unwrap_or(b"");
         let what = format!(
             "line {}: {}\n  expected {} {:?}\n  play     {}",
