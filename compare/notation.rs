@@ -37,11 +37,12 @@ pub fn understand(line: &[u8]) -> Line {
     if line.len() > MOST_BYTES_OF_A_LINE {
         return Line::NotUnderstood;
     }
-    // One is passed over; a second one is a byte like any other.
+    // One is passed over, also where the list ends without a newline; a second is a byte like any other.
     let line = line.strip_suffix(b"\r").unwrap_or(line);
     let before_the_comment = line.split(|byte| *byte == b'#').next().unwrap_or(line);
     let words: Vec<&[u8]> =
         before_the_comment.split(|byte| *byte == b' ').filter(|word| !word.is_empty()).collect();
+    // A line of spaces, also before a comment, says as little as an empty one.
     if words.is_empty() {
         return Line::Nothing;
     }
@@ -159,10 +160,12 @@ fn hexadecimal(digits: &[u8], most: usize) -> Option<u32> {
     Some(value)
 }
 
+/// Unsigned, so that it takes no sign.
 fn number_of_a_byte(word: &[u8]) -> Option<u8> {
     u8::try_from(decimal(word)?).ok()
 }
 
+/// A plus sign is no part of the notation; `-0` spells 0.
 fn signed_number(word: &[u8]) -> Option<i16> {
     let value = match word.strip_prefix(b"-") {
         Some(digits) => -decimal(digits)?,
