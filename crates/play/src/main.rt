@@ -20,7 +20,7 @@ fn play_all(line: &mut [u8; 1024], out: &mut [u8; 8192]) -> Session {
     let mut session = Session::fresh();
     let mut turns = u64::MAX;
     while 0 < turns {
-        if session.is_over {
+        if session.ended {
             return session;
         }
         session = play_block(session, line, out);

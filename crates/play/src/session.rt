@@ -15,6 +15,11 @@ use notation::items::first_numbers;
 use profile::Cause;
 use std::num::wrapping_add_u64;
 ghost use Prim.Native.Nat.{_≤_};
+ghost use lib.ListN.{length, take};
+ghost use Rattle.profile.specs.Calls as Doc;
+ghost use Rattle.notation.specs.Meanings.{meaningOf};
+ghost use Rattle.notation.specs.Meanings.Meaning.{unknown, create, call};
+ghost use Rattle.play.specs.Playing.{Played, Counted};
 
 pub struct Session {
     pub device: Device,
@@ -27,7 +32,7 @@ pub struct Session {
     pub length: usize,
     // How many bytes of the output wait to be written.
     pub at: usize,
-    pub is_over: bool,
+    pub ended: bool,
 }
 
 impl Session {
@@ -42,12 +47,12 @@ impl Session {
             lines: 0,
             length: 0,
             at: 0,
-            is_over: false,
+            ended: false,
         }
     }
 
     pub fn stopped(mut self) -> Session {
-        self.is_over = true;
+        self.ended = true;
         self
     }
 
@@ -94,17 +99,19 @@ impl Session {
         self.play_text(first_bytes(line, length), out).written(out)
     }
 
-    fn play_text(self, text: &[u8], out: &mut [u8; 8192]) -> Session {
-        let mut data = [0u8; 512];
+    fn play_text(self, text: &[u8], out: &mut [u8; 8192]) -> Session
+        ensures { λ r. ⌜ Played self (meaningOf (now (text .entry))) (now (out .entry)) r (now (out .exit)) ⌝ }
+    {
+        let mut payload = [0u8; 512];
         let mut bytes = [0u8; 64];
         let mut numbers = [0i16; 64];
         let mut events = [0u8; 64];
-        match understand(text, &mut data, &mut bytes, &mut numbers, &mut events) {
+        match understand(text, &mut payload, &mut bytes, &mut numbers, &mut events) {
             Call::Nothing => self,
             Call::Unknown(expected) => self.reject(expected, out),
             Call::Create(node) => self.create(node, out),
             Call::Read(index, sub) => self.read(index, sub, out),
-            Call::Write(index, sub, n) => self.write_from(&data, n, index, sub, out),
+            Call::Write(index, sub, n) => self.write_from(&payload, n, index, sub, out),
             Call::Sample(n, m, k) => {
                 self.sample_from(&bytes, n, &numbers, m, &mut events, k, out)
             }
@@ -118,13 +125,15 @@ impl Session {
     // The first n bytes are the data.
     fn write_from(
         self,
-        data: &[u8; 512],
+        payload: &[u8; 512],
         n: usize,
         index: u16,
         sub: u8,
         out: &mut [u8; 8192],
-    ) -> Session {
-        self.write(index, sub, first_bytes(data, n), out)
+    ) -> Session
+        ensures { λ r. ⌜ Played self (call (Doc.Call.write index sub (take n (now (payload .entry))))) (now (out .entry)) r (now (out .exit)) ⌝ }
+    {
+        self.write(index, sub, first_bytes(payload, n), out)
     }
 
     // The first n bytes, m numbers and k event bytes are the buffers.
@@ -137,7 +146,10 @@ impl Session {
         events: &mut [u8; 64],
         k: usize,
         out: &mut [u8; 8192],
-    ) -> Session {
+    ) -> Session
+        requires { ⌜ k ≤ 64 ⌝ }
+        ensures { λ r. ⌜ Played self (call (Doc.Call.sample (take n (now (bytes .entry))) (take m (now (numbers .entry))) (take k (now (events .entry))))) (now (out .entry)) r (now (out .exit)) ⌝ }
+    {
         self.sample(
             first_bytes(bytes, n),
             first_numbers(numbers, m),
@@ -155,24 +167,33 @@ impl Session {
         numbers: &mut [i16; 64],
         m: usize,
         out: &mut [u8; 8192],
-    ) -> Session {
+    ) -> Session
+        requires { ⌜ (n ≤ 64) × (m ≤ 64) ⌝ }
+        ensures { λ r. ⌜ Played self (call (Doc.Call.drive (take n (now (bytes .entry))) (take m (now (numbers .entry))))) (now (out .entry)) r (now (out .exit)) ⌝ }
+    {
         self.drive(bytes, n, numbers, m, out)
     }
 
-    fn reject(mut self, expected: Expected, out: &mut [u8; 8192]) -> Session {
+    fn reject(mut self, expected: Expected, out: &mut [u8; 8192]) -> Session
+        ensures { λ r. ⌜ Played self (unknown expected) (now (out .entry)) r (now (out .exit)) ⌝ }
+    {
         self.unknown = wrapping_add_u64(self.unknown, 1);
         self.at = put_unknown(out, self.at, self.lines, expected);
         self
     }
 
-    fn create(self, node: u8, out: &mut [u8; 8192]) -> Session {
+    fn create(self, node: u8, out: &mut [u8; 8192]) -> Session
+        ensures { λ r. ⌜ Played self (create node) (now (out .entry)) r (now (out .exit)) ⌝ }
+    {
         let made = Device::create(node);
         let at = put_plain(out, self.at, made.number);
         let device = made.device;
         self.after(device, made.number, at)
     }
 
-    fn read(self, index: u16, sub: u8, out: &mut [u8; 8192]) -> Session {
+    fn read(self, index: u16, sub: u8, out: &mut [u8; 8192]) -> Session
+        ensures { λ r. ⌜ Played self (call (Doc.Call.read index sub)) (now (out .entry)) r (now (out .exit)) ⌝ }
+    {
         let device = self.device;
         let got = device.read(index, sub);
         let at = put_read(out, self.at, got.number, got.value, got.size, index, sub);
@@ -180,7 +201,9 @@ impl Session {
         self.after(next, got.number, at)
     }
 
-    fn write(self, index: u16, sub: u8, bytes: &[u8], out: &mut [u8; 8192]) -> Session {
+    fn write(self, index: u16, sub: u8, bytes: &[u8], out: &mut [u8; 8192]) -> Session
+        ensures { λ r. ⌜ Played self (call (Doc.Call.write index sub (now (bytes .entry)))) (now (out .entry)) r (now (out .exit)) ⌝ }
+    {
         let device = self.device;
         let got = device.write(index, sub, bytes);
         let at = put_write(out, self.at, got.number, index, sub);
@@ -195,16 +218,26 @@ impl Session {
         events: &mut [u8],
         count: usize,
         out: &mut [u8; 8192],
-    ) -> Session {
-        let n = least(count, events.len());
+    ) -> Session
+        requires { ⌜ count ≤ length (now events) ⌝ }
+        ensures { λ r. ⌜ Played self (call (Doc.Call.sample (now (digital .entry)) (now (analogue .entry)) (take count (now (events .entry))))) (now (out .entry)) r (now (out .exit)) ⌝ }
+    {
         let device = self.device;
-        let got = device.sample(digital, analogue, &mut events[..n]);
-        let at = put_sample(out, self.at, got.number, first_bytes(events, n), got.events);
+        let got = device.sample(digital, analogue, &mut events[..count]);
+        let at = put_sample(
+            out,
+            self.at,
+            got.number,
+            first_bytes(events, count),
+            got.events,
+        );
         let next = got.device;
         self.after(next, got.number, at)
     }
 
-    fn command(self, code: u8, node: u8, out: &mut [u8; 8192]) -> Session {
+    fn command(self, code: u8, node: u8, out: &mut [u8; 8192]) -> Session
+        ensures { λ r. ⌜ Played self (call (Doc.Call.command code node)) (now (out .entry)) r (now (out .exit)) ⌝ }
+    {
         let device = self.device;
         let got = device.command(code, node);
         let at = put_plain(out, self.at, got.number);
@@ -212,7 +245,9 @@ impl Session {
         self.after(next, got.number, at)
     }
 
-    fn raise(self, cause: Cause, out: &mut [u8; 8192]) -> Session {
+    fn raise(self, cause: Cause, out: &mut [u8; 8192]) -> Session
+        ensures { λ r. ⌜ Played self (call (Doc.Call.raise cause)) (now (out .entry)) r (now (out .exit)) ⌝ }
+    {
         let device = self.device;
         let got = device.raise(cause);
         let at = put_plain(out, self.at, got.number);
@@ -220,7 +255,9 @@ impl Session {
         self.after(next, got.number, at)
     }
 
-    fn clear(self, cause: Cause, out: &mut [u8; 8192]) -> Session {
+    fn clear(self, cause: Cause, out: &mut [u8; 8192]) -> Session
+        ensures { λ r. ⌜ Played self (call (Doc.Call.clear cause)) (now (out .entry)) r (now (out .exit)) ⌝ }
+    {
         let device = self.device;
         let got = device.clear(cause);
         let at = put_plain(out, self.at, got.number);
@@ -235,24 +272,27 @@ impl Session {
         channels: &mut [i16],
         numbers: usize,
         out: &mut [u8; 8192],
-    ) -> Session {
-        let n = least(count, lines.len());
-        let m = least(numbers, channels.len());
+    ) -> Session
+        requires { ⌜ (count ≤ length (now lines)) × (numbers ≤ length (now channels)) ⌝ }
+        ensures { λ r. ⌜ Played self (call (Doc.Call.drive (take count (now (lines .entry))) (take numbers (now (channels .entry))))) (now (out .entry)) r (now (out .exit)) ⌝ }
+    {
         let device = self.device;
-        let got = device.drive(&mut lines[..n], &mut channels[..m]);
+        let got = device.drive(&mut lines[..count], &mut channels[..numbers]);
         let at = put_drive(
             out,
             self.at,
             got.number,
-            first_bytes(lines, n),
-            first_numbers(channels, m),
+            first_bytes(lines, count),
+            first_numbers(channels, numbers),
         );
         let next = got.device;
         self.after(next, got.number, at)
     }
 
     // Counts a call.
-    fn after(mut self, device: Device, number: u32, at: usize) -> Session {
+    fn after(mut self, device: Device, number: u32, at: usize) -> Session
+        ensures { λ r. ⌜ Counted self device number at r ⌝ }
+    {
         self.device = device;
         self.at = at;
         self.calls = wrapping_add_u64(self.calls, 1);
@@ -281,13 +321,4 @@ impl Session {
 
 fn write_out(out: &[u8], at: usize) {
     io::write_all(1, first_bytes(out, at));
-}
-
-fn least(a: usize, b: usize) -> usize
-    ensures { λ r. ⌜ r ≤ b ⌝ }
-{
-    if a < b {
-        return a;
-    }
-    b
 }

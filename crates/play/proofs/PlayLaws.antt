@@ -1,0 +1,83 @@
+-- A call that was counted and answered was played.
+-- Assumes nothing.
+use mathlib.Core.Path.{_≡_, refl, sym, ap, subst, _∙_}
+use mathlib.Core.Bool.{Bool, not}
+use mathlib.Core.List.{List, [], _∷_, _++_}
+use Prim.Native.Nat.{ℕ}
+use native.Mathlib.Nat.{add-zero}
+use lib.ListN.{length, take}
+use lib.IntN.{ℤ}
+use lib.Dec.{eqb}
+use Rattle.profile.specs.Calls.{Call, Reply}
+use Rattle.profile.specs.Refusals.{createRefusal, createdNumber}
+use Rattle.profile.specs.Replies.{freshMachines}
+use Rattle.profile.specs.Lists.{Same, Outcome, stepAll}
+use Rattle.device.specs.declared.Device.{Device}
+use Rattle.device.specs.declared.Created.{Created}
+use Rattle.device.specs.View.{machinesOf}
+use Rattle.device.specs.Promises.{CreatedAs}
+use Rattle.notation.specs.Texts.{Put}
+use Rattle.notation.specs.Answers.{plainLine}
+use Rattle.notation.specs.declared.Call.{Call as Said}
+use Rattle.notation.specs.Meanings.{Meaning}
+use Rattle.notation.specs.Meanings.Meaning.{nothing, create, call}
+use Rattle.notation.specs.Promises.{said, Fitting, Says}
+use Rattle.play.specs.declared.session.Session.{Session}
+use Rattle.play.specs.Playing.{answerLine, counted, Played, Counted}
+
+-- what a call leaves of the part that it was lent stands in front of the rest
+pub front-is : {A : Type 0} (n : ℕ) (left rest : List A) → length left ≡ n → take n (left ++ rest) ≡ left
+front-is {A = A} n left rest e = ap (λ k. take k (left ++ rest)) (sym e) ∙ at left
+  where
+    at : (l : List A) → take (length l) (l ++ rest) ≡ l
+    at [] = refl
+    at (x ∷ l) = ap (λ (m : List A). x ∷ m) (at l)
+
+-- a line means what the reader's answer says
+pub as-meant : {before after : Session} {out left : List ℕ} {payload bytes : List ℕ} {numbers : List ℤ} {events : List ℕ} (m : Meaning) (r s : Said) → Says m r payload bytes numbers events → r ≡ s →
+    Played before (said s payload bytes numbers events) out after left → Played before m out after left
+as-meant {before} {after} {out} {left} {payload} {bytes} {numbers} {events} m r s w e p =
+    subst (λ (x : Meaning). Played before x out after left) (ap (λ (x : Said). said x payload bytes numbers events) (sym e) ∙ w .is) p
+
+-- its data lie within the buffers
+pub fits-as : (m : Meaning) (r s : Said) {payload bytes : List ℕ} {numbers : List ℤ} {events : List ℕ} → Says m r payload bytes numbers events → r ≡ s → Fitting s
+fits-as m r s w e = subst (λ (x : Said). Fitting x) e (w .fits)
+
+pub not-played : (before : Session) (out : List ℕ) → Played before nothing out before out
+not-played before out = record {
+  machines = record { at = λ k i h. refl };
+  answered = record { kept = refl; inside = λ h. h; moved = λ h. sym (add-zero (before .at)); written = λ h. refl };
+  calls = refl;
+  refused = refl;
+  unknown = refl;
+  lines = refl;
+  length = refl;
+  ended = refl;
+}
+
+module _ (before : Session) (out left : List ℕ) (after : Session) where
+  pub called : (c : Call) (r : Reply) (d : Device) (place : ℕ) → Outcome (machinesOf (before .device)) c r (machinesOf d) → Counted before d (r .number) place after →
+      Put (answerLine c r) out (before .at) left place → Played before (call c) out after left
+  called c r d place o k p = record {
+    machines = subst (λ (x : Device). Same (machinesOf x) (stepAll c (machinesOf (before .device)))) (sym (k .device)) (o .machines);
+    answered = subst (λ (x : Reply). Put (answerLine c x) out (before .at) left (after .at)) (o .replied) (subst (λ n. Put (answerLine c r) out (before .at) left n) (sym (k .at)) p);
+    calls = k .calls;
+    refused = k .refused ∙ ap (λ (x : Reply). counted (not (eqb (x .number) 0)) (before .refused)) (o .replied);
+    unknown = k .unknown;
+    lines = k .lines;
+    length = k .length;
+    ended = k .ended;
+  }
+
+  pub created : (node : ℕ) (made : Created) (place : ℕ) → CreatedAs node made → Counted before (made .device) (made .number) place after →
+      Put (plainLine (made .number)) out (before .at) left place → Played before (create node) out after left
+  created node made place o k p = record {
+    machines = subst (λ (x : Device). Same (machinesOf x) (freshMachines (createdNumber node))) (sym (k .device)) (o .machines);
+    answered = subst (λ n. Put (plainLine n) out (before .at) left (after .at)) (o .numbered) (subst (λ n. Put (plainLine (made .number)) out (before .at) left n) (sym (k .at)) p);
+    calls = k .calls;
+    refused = k .refused ∙ ap (λ n. counted (not (eqb n 0)) (before .refused)) (o .numbered);
+    unknown = k .unknown;
+    lines = k .lines;
+    length = k .length;
+    ended = k .ended;
+  }

@@ -1,0 +1,88 @@
+-- What playing a line does: the answer that document 01's machines give, as the notation writes it, the machines after it, and the counts.
+-- Assumes nothing.
+use mathlib.Core.Path.{_≡_}
+use mathlib.Core.Bool.{Bool, true, false, not}
+use mathlib.Core.List.{List, []}
+use Prim.Native.Nat.{ℕ, _+_, _%_, _^_}
+use lib.Dec.{eqb}
+use Rattle.profile.specs.Calls.{Call, Reply, read, write, sample, command, raise, clear, drive}
+use Rattle.profile.specs.Refusals.{createRefusal, createdNumber}
+use Rattle.profile.specs.Replies.{Machines, freshMachines, reply}
+use Rattle.profile.specs.Lists.{Same, stepAll}
+use Rattle.device.specs.declared.Device.{Device}
+use Rattle.device.specs.View.{machinesOf}
+use Rattle.notation.specs.Texts.{Put}
+use Rattle.notation.specs.Answers.{plainLine, readLine, writeLine, sampleLine, driveLine, unknownLine}
+use Rattle.notation.specs.Meanings.{Meaning}
+use Rattle.notation.specs.Meanings.Meaning.{nothing, unknown, create, call}
+use Rattle.play.specs.declared.session.Session.{Session}
+
+-- the answer line of a call and its reply
+abbrev pub answerLine : Call → Reply → List ℕ
+answerLine (read index sub) r = readLine (r .number) (r .value) (r .size) index sub
+answerLine (write index sub bytes) r = writeLine (r .number) index sub
+answerLine (sample digital analogue events) r = sampleLine (r .number) (r .bytes) (r .events)
+answerLine (command code node) r = plainLine (r .number)
+answerLine (raise cause) r = plainLine (r .number)
+answerLine (clear cause) r = plainLine (r .number)
+answerLine (drive lines channels) r = driveLine (r .number) (r .bytes) (r .numbers)
+
+-- what is written for a line of a number, with the machines as the lines before left them: "one answer line for each call", none for an empty line
+abbrev pub answerFor : ℕ → Machines → Meaning → List ℕ
+answerFor line ms nothing = []
+answerFor line ms (unknown e) = unknownLine line e
+answerFor line ms (create node) = plainLine (createRefusal node)
+answerFor line ms (call c) = answerLine c (reply ms c)
+
+-- the machines after it: a create "starts over with a fresh device", a line that is no call "changes nothing"
+abbrev pub machinesFor : Machines → Meaning → Machines
+machinesFor ms nothing = ms
+machinesFor ms (unknown e) = ms
+machinesFor ms (create node) = freshMachines (createdNumber node)
+machinesFor ms (call c) = stepAll c ms
+
+-- "C calls, R refused, Q not understood": whether a line counts as one
+abbrev pub isCall : Meaning → Bool
+isCall nothing = false
+isCall (unknown e) = false
+isCall (create node) = true
+isCall (call c) = true
+
+abbrev pub isRefused : Machines → Meaning → Bool
+isRefused ms nothing = false
+isRefused ms (unknown e) = false
+isRefused ms (create node) = not (eqb (createRefusal node) 0)
+isRefused ms (call c) = not (eqb (reply ms c .number) 0)
+
+abbrev pub isUnknown : Meaning → Bool
+isUnknown nothing = false
+isUnknown (unknown e) = true
+isUnknown (create node) = false
+isUnknown (call c) = false
+
+-- one more in 64 bits, where it counts
+abbrev pub counted : Bool → ℕ → ℕ
+counted false n = n
+counted true n = (n + 1) % 2 ^ 64
+
+-- the promise of playing a line
+pub record Played (before : Session) (m : Meaning) (out : List ℕ) (after : Session) (left : List ℕ) : Type 0 where
+  pub machines : Same (machinesOf (after .device)) (machinesFor (machinesOf (before .device)) m)
+  pub answered : Put (answerFor (before .lines) (machinesOf (before .device)) m) out (before .at) left (after .at)
+  pub calls : after .calls ≡ counted (isCall m) (before .calls)
+  pub refused : after .refused ≡ counted (isRefused (machinesOf (before .device)) m) (before .refused)
+  pub unknown : after .unknown ≡ counted (isUnknown m) (before .unknown)
+  pub lines : after .lines ≡ before .lines
+  pub length : after .length ≡ before .length
+  pub ended : after .ended ≡ before .ended
+
+-- a call was counted: the device, the call's number and the place in the output are those given
+pub record Counted (before : Session) (d : Device) (number place : ℕ) (after : Session) : Type 0 where
+  pub device : after .device ≡ d
+  pub at : after .at ≡ place
+  pub calls : after .calls ≡ counted true (before .calls)
+  pub refused : after .refused ≡ counted (not (eqb number 0)) (before .refused)
+  pub unknown : after .unknown ≡ before .unknown
+  pub lines : after .lines ≡ before .lines
+  pub length : after .length ≡ before .length
+  pub ended : after .ended ≡ before .ended
