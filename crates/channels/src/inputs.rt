@@ -13,20 +13,20 @@ ghost use Rattle.channels.specs.Numbers.{raised};
 ghost use Rattle.channels.specs.Promises.{Sampled, AllSampled, SourcesTaken, InputWritten};
 
 pub struct SampledChannel {
-    pub event: bool,
     pub channel: AnalogueInput,
+    pub event: bool,
 }
 
 pub struct SampledInputs {
+    pub channels: [AnalogueInput; 16],
     // Bit n - 1 for channel n.
     pub events: u16,
-    pub channels: [AnalogueInput; 16],
 }
 
 pub struct SourcesRead {
+    pub channels: [AnalogueInput; 16],
     // Bit n - 1 for channel n.
     pub sources: u16,
-    pub channels: [AnalogueInput; 16],
 }
 
 // Counted up from -32,768, so that no difference of two wraps.
