@@ -48,18 +48,14 @@ impl Device {
             (driveAnswer r (now (lines .exit)) (now (channels .exit))) (machinesOf (r .device)) ⌝ }
     {
         let refused = drive_refusal(lines.len(), channels.len());
-        if refused != 0 {
-            return Answer {
-                number: refused,
-                device: self,
-            };
+        if refused == 0 {
+            let rows = self.lines;
+            rows.drive(lines);
+            let outputs = self.outputs;
+            outputs::drive(outputs, channels);
         }
-        let rows = self.lines;
-        rows.drive(lines);
-        let outputs = self.outputs;
-        outputs::drive(outputs, channels);
         Answer {
-            number: 0,
+            number: refused,
             device: self,
         }
     }
