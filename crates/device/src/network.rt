@@ -1,14 +1,12 @@
-// command, raise and clear.
+// command, raise and clear. Where fault begins or ends with the new node, every output moves; done in each call, since a shared function would copy the device once more.
 use crate::Answer;
 use crate::Device;
 use channels::outputs::move_all;
 use profile::Cause;
-use profile::Node;
 use profile::refusals::command_refusal;
 ghost use Rattle.profile.specs.Calls.{Call};
-ghost use Rattle.profile.specs.Lists.{Same, Outcome};
+ghost use Rattle.profile.specs.Lists.{Outcome};
 ghost use Rattle.device.specs.View.{machinesOf, plainAnswer};
-ghost use Rattle.device.specs.Promises.{moved};
 
 impl Device {
     pub fn command(mut self, code: u8, node: u8) -> Answer
@@ -34,9 +32,19 @@ impl Device {
                 device: Device::fresh(was.number),
             };
         }
+        let now = was.obeyed(code);
+        let before = was.in_fault();
+        let after = now.in_fault();
+        let lines = self.lines;
+        let outputs = self.outputs;
+        let moved_lines = lines.moved(before, after);
+        let moved_outputs = move_all(outputs, before, after);
+        self.node = now;
+        self.lines = moved_lines;
+        self.outputs = moved_outputs;
         Answer {
             number: 0,
-            device: self.with_node(was.obeyed(code)),
+            device: self,
         }
     }
 
@@ -44,9 +52,19 @@ impl Device {
         ensures { λ r. ⌜ Outcome (machinesOf self) (Call.raise cause) (plainAnswer r) (machinesOf (r .device)) ⌝ }
     {
         let was = self.node;
+        let node = was.raised(cause);
+        let before = was.in_fault();
+        let after = node.in_fault();
+        let lines = self.lines;
+        let outputs = self.outputs;
+        let raised_lines = lines.moved(before, after);
+        let raised_outputs = move_all(outputs, before, after);
+        self.node = node;
+        self.lines = raised_lines;
+        self.outputs = raised_outputs;
         Answer {
             number: 0,
-            device: self.with_node(was.raised(cause)),
+            device: self,
         }
     }
 
@@ -54,26 +72,19 @@ impl Device {
         ensures { λ r. ⌜ Outcome (machinesOf self) (Call.clear cause) (plainAnswer r) (machinesOf (r .device)) ⌝ }
     {
         let was = self.node;
-        Answer {
-            number: 0,
-            device: self.with_node(was.cleared(cause)),
-        }
-    }
-
-    // Where fault begins or ends with the new node, every output moves.
-    fn with_node(mut self, node: Node) -> Device
-        ensures { λ r. ⌜ Same (machinesOf r) (moved node self) ⌝ }
-    {
-        let was = self.node;
+        let node = was.cleared(cause);
         let before = was.in_fault();
         let after = node.in_fault();
         let lines = self.lines;
         let outputs = self.outputs;
-        let moved_lines = lines.moved(before, after);
-        let moved_outputs = move_all(outputs, before, after);
+        let cleared_lines = lines.moved(before, after);
+        let cleared_outputs = move_all(outputs, before, after);
         self.node = node;
-        self.lines = moved_lines;
-        self.outputs = moved_outputs;
-        self
+        self.lines = cleared_lines;
+        self.outputs = cleared_outputs;
+        Answer {
+            number: 0,
+            device: self,
+        }
     }
 }
