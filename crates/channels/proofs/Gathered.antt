@@ -31,6 +31,9 @@ module _ {f : ℕ → Bool} {i n w : ℕ} (g : Gathered f i n w) where
         power = ap (λ (k : ℕ). k * 2) (g .power) ∙ sym (pow-suc 2 i);
       })
 
+  pub gathered-skip : f i ≡ false → Gathered f (i + 1) n (w * 2)
+  gathered-skip e = let same : n + bit false * w ≡ n = omega arith in rw same at (gathered-more false (sym e))
+
   -- while fewer than sixteen bits are gathered, the sum and the next weight fit
   pub weight-room : i < 16 → w ≤ 32768
   weight-room h = omega (arith, g .power, pow-mono {i = i} {j = 15} (omega arith))

@@ -35,6 +35,15 @@ module _ {A : Type 0} (f : ℕ → A → A) (d : A) (xs : List A) where
         high = λ k l. getD-set-other ys j k v d (λ (q : k ≡ j). omega arith) ∙ m .high k (omega arith);
       }
 
+  -- where f leaves the element at j, the list may stay
+  pub mapped-stay : (ys : List A) (j : ℕ) → Mapped f d xs ys j → f j (getD xs j d) ≡ getD xs j d → Mapped f d xs ys (j + 1)
+  mapped-stay ys j m e =
+      record {
+        len = m .len;
+        low = λ k l. ⊎-elim (λ (q : k ≡ j). rw q (m .high j (omega arith) ∙ sym e)) (λ (a : k < j). m .low k a) (eq-or-lt-of-le (le k l));
+        high = λ k l. m .high k (omega arith);
+      }
+
 -- a list that is filled whole, whatever it held
 module _ {A : Type 0} where
   pub mapped-list : (n : ℕ) (f : ℕ → A) (d : A) (xs ys : List A) (j : ℕ) → Mapped (λ k x. f k) d xs ys j → length xs ≡ n → n ≤ j → ys ≡ listFrom n 0 f

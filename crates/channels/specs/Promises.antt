@@ -1,17 +1,18 @@
 -- What the functions on analogue channels promise. A channel past the end of an array is read as one with every field 0.
 -- Assumes nothing.
 use mathlib.Core.Path.{_≡_}
-use mathlib.Core.Bool.{Bool, false, cond, _&&_}
+use mathlib.Core.Bool.{Bool, false, cond, _&&_, _||_}
 use mathlib.Core.List.{List}
 use Prim.Native.Nat.{ℕ, _<_}
-use lib.Dec.{eqb}
+use lib.Dec.{eqb, ltb}
 use lib.ListN.{getD}
-use lib.IntN.{ℤ, pos}
+use lib.IntN.{ℤ, pos, _-ℤ_, natAbs}
+use lib.Signed.{ltZ}
 use Rattle.profile.specs.declared.AnalogueInput.{AnalogueInput}
 use Rattle.profile.specs.declared.AnalogueOutput.{AnalogueOutput}
-use Rattle.profile.specs.Bits.{gather}
+use Rattle.profile.specs.Bits.{bitAt, gather}
 use Rattle.profile.specs.Bytes.{listFrom}
-use Rattle.profile.specs.Analogue.{meets, sampleChannel, clearSource, writeAnalogueInput, writeAnalogueOutput, moveAnalogueOutput}
+use Rattle.profile.specs.Analogue.{eqZ, meets, sampleChannel, clearSource, writeAnalogueInput, writeAnalogueOutput, moveAnalogueOutput}
 
 abbrev pub blankInput : AnalogueInput
 blankInput = record { selection = 0; upper = pos 0; lower = pos 0; delta = 0; negative = 0; positive = 0; last = pos 0; reference = pos 0; source = false }
@@ -25,6 +26,20 @@ inputOf channels n = getD channels n blankInput
 
 abbrev pub outputOf : List AnalogueOutput → ℕ → AnalogueOutput
 outputOf channels n = getD channels n blankOutput
+
+-- the parts of `meets`: a selected limit of 6424 or 6425 is passed, and a selected delta of 6426, 6427 or 6428 is exceeded
+unfoldable pub meetsLimit : ℤ → AnalogueInput → Bool
+meetsLimit x m = (bitAt (m .selection) 0 && ltZ (m .upper) x) || (bitAt (m .selection) 1 && ltZ x (m .lower))
+
+unfoldable pub meetsDelta : ℤ → AnalogueInput → Bool
+meetsDelta x m =
+    (bitAt (m .selection) 2 && ltb (m .delta) (natAbs (x -ℤ m .reference)))
+    || (bitAt (m .selection) 3 && ltZ (pos (m .negative)) (m .reference -ℤ x))
+    || (bitAt (m .selection) 4 && ltZ (pos (m .positive)) (x -ℤ m .reference))
+
+-- x is the last sample and the reference
+abbrev pub still : ℤ → AnalogueInput → Bool
+still x m = eqZ x (m .last) && eqZ x (m .reference)
 
 -- channel n meets a selected condition at its own number, and events are on: the node is operational and 6423 is 1
 unfoldable pub met : Bool → List ℤ → List AnalogueInput → ℕ → Bool

@@ -4,13 +4,13 @@ use crate::numbers::bits32;
 use crate::numbers::signed32;
 use profile::AnalogueInput;
 ghost use mathlib.Core.Path.{_≡_};
-ghost use Prim.Native.Nat.{_-_, _*_, _^_, _<_};
+ghost use Prim.Native.Nat.{_*_, _^_, _<_};
 ghost use lib.ListN.{length};
 ghost use Rattle.profile.specs.Bits.{bit};
 ghost use Rattle.profile.specs.Entries.{inputSize};
 ghost use Rattle.profile.specs.Analogue.{meets, readAnalogueInput, writeAnalogueInput};
 ghost use Rattle.channels.specs.Numbers.{raised};
-ghost use Rattle.channels.specs.Promises.{Sampled, AllSampled, SourcesTaken, InputWritten};
+ghost use Rattle.channels.specs.Promises.{meetsLimit, meetsDelta, still, Sampled, AllSampled, SourcesTaken, InputWritten};
 
 pub struct SampledChannel {
     pub channel: AnalogueInput,
@@ -36,33 +36,49 @@ fn raise(x: i16) -> u32
     ((x as i32) + 32768) as u32
 }
 
-// How far b is above a, or 0.
-fn gap(a: u32, b: u32) -> u32
-    ensures { λ r. ⌜ r ≡ b - a ⌝ }
+// Whether a sample is past a limit that 6421 selects.
+fn meets_limit(channel: AnalogueInput, x: i16) -> bool
+    ensures { λ r. ⌜ r ≡ meetsLimit x channel ⌝ }
 {
-    if a < b { b - a } else { 0 }
+    let selection = channel.selection;
+    let upper = channel.upper < x as i32;
+    let lower = (x as i32) < channel.lower;
+    ((selection % 2 == 1) & upper) | ((selection / 2 % 2 == 1) & lower)
+}
+
+// Whether a sample is farther from the reference than a delta that 6421 selects.
+fn meets_delta(channel: AnalogueInput, x: i16) -> bool
+    ensures { λ r. ⌜ r ≡ meetsDelta x channel ⌝ }
+{
+    let selection = channel.selection;
+    let to = raise(x);
+    let from = raise(channel.reference);
+    if to < from {
+        let fall = from - to;
+        let delta = (selection / 4 % 2 == 1) & (channel.delta < fall);
+        return delta | ((selection / 8 % 2 == 1) & (channel.negative < fall));
+    }
+    let rise = to - from;
+    let delta = (selection / 4 % 2 == 1) & (channel.delta < rise);
+    delta | ((selection / 16 % 2 == 1) & (channel.positive < rise))
 }
 
 // Whether a sample meets a condition that 6421 selects.
 pub fn meets_selected(channel: AnalogueInput, x: i16) -> bool
     ensures { λ r. ⌜ r ≡ meets x channel ⌝ }
 {
-    let selection = channel.selection;
-    let to = raise(x);
-    let from = raise(channel.reference);
-    let fall = gap(to, from);
-    let rise = gap(from, to);
     let differs = x != channel.last;
-    let upper = (channel.upper < x as i32) & differs;
-    let lower = ((x as i32) < channel.lower) & differs;
-    let delta = (channel.delta < fall) | (channel.delta < rise);
-    let negative = channel.negative < fall;
-    let positive = channel.positive < rise;
-    ((selection % 2 == 1) & upper)
-        | ((selection / 2 % 2 == 1) & lower)
-        | ((selection / 4 % 2 == 1) & delta)
-        | ((selection / 8 % 2 == 1) & negative)
-        | ((selection / 16 % 2 == 1) & positive)
+    if differs & meets_limit(channel, x) {
+        return true;
+    }
+    meets_delta(channel, x)
+}
+
+// A sample that equals the last one and the reference meets nothing and leaves the channel.
+fn is_still(channel: AnalogueInput, x: i16) -> bool
+    ensures { λ r. ⌜ r ≡ still x channel ⌝ }
+{
+    (x == channel.last) & (x == channel.reference)
 }
 
 // Events are on while the node is operational and 6423 is 1.
@@ -98,11 +114,14 @@ pub fn sample_all(channels: [AnalogueInput; 16], xs: &[i16], on: bool) -> Sample
     let mut i: usize = 0;
     while i < 16 {
         let x = xs[i];
-        let old = next[i];
-        let result = sampled(old, x, on);
-        let channel = result.channel;
-        next[i] = channel;
-        events += weigh(result.event, weight);
+        let seen = next[i];
+        if !is_still(seen, x) {
+            let old = next[i];
+            let result = sampled(old, x, on);
+            let channel = result.channel;
+            next[i] = channel;
+            events += weigh(result.event, weight);
+        }
         weight *= 2;
         i += 1;
     }

@@ -1,77 +1,48 @@
--- `inputs::meets_selected` meets its contract: what the code compares is what the conditions name.
+-- `inputs::meets_selected` meets its contract: the limits where the sample differs, then the deltas.
 -- Assumes nothing.
 use borrow.Author.Needs.{needs}
-use mathlib.Core.Path.{_≡_, ap, _∙_}
-use lib.Signed.{ltZ}
-use mir.Syntax.{w16, w32}
-use mir.Val.{SFits}
+use mathlib.Core.Path.{_≡_, sym, ap, ap₂, _∙_}
+use mathlib.Core.Bool.{Bool, not, _&&_, _||_}
+use lib.Dec.{eqb}
+use lib.IntN.{ℤ}
+use mir.Syntax.{w16}
+use mir.Val.{SFits, ofZ}
 use mir.Facts.{toZ-ofZ}
-use Rattle.channels.specs.Numbers.{raised}
+use Rattle.profile.specs.Analogue.{eqZ}
+use Rattle.channels.specs.Promises.{meetsLimit, meetsDelta}
 use Rattle.channels.proofs.SignedLaws.{equal-bits}
-use Rattle.channels.proofs.TwosComplement.{widened, widened-is}
-use Rattle.channels.proofs.MeetsLaws.{meets-is}
+use Rattle.channels.proofs.MeetsLaws.{meets-parts}
 use Rattle.channels.proofs.inputs.meets_selected.Statement.{statement}
 use Rattle.channels.proofs.inputs.meets_selected.Tie as tie
 
-raise-requires : tie.Need-raise-requires
-raise-requires c κs = search needs
+meets-limit-requires : tie.Need-meets-limit-requires
+meets-limit-requires c κs = search needs
 
-raise-requires-2 : tie.Need-raise-requires-2
-raise-requires-2 c κs = search needs
-
-gap-requires : tie.Need-gap-requires
-gap-requires c κs = search needs
-
-gap-requires-2 : tie.Need-gap-requires-2
-gap-requires-2 c κs = search needs
-
-cast-upper : tie.Need-cast-upper
-cast-upper c =
-    let s = c .before .before .before .before .before .before .before in
-    widened w16 w32 tt (s .args .x) (s .fits .x)
-
-cast-lower : tie.Need-cast-lower
-cast-lower c = cast-upper (c .before .before)
-
--- what the struct's type says of its signed fields
-upper-fits : (c : tie.After-struct-told) → SFits w32 (c .before .before .args .channel .upper)
-upper-fits c = record { sfits = c .struct-told .given .1 .0 .1 }
-
-lower-fits : (c : tie.After-struct-told) → SFits w32 (c .before .before .args .channel .lower)
-lower-fits c = record { sfits = c .struct-told .given .1 .1 .0 .1 }
-
-last-fits : (c : tie.After-struct-told) → SFits w16 (c .before .before .args .channel .last)
-last-fits c = record { sfits = c .struct-told .given .1 .1 .1 .1 .1 .1 .0 .1 }
-
-reference-fits : (c : tie.After-struct-told) → SFits w16 (c .before .before .args .channel .reference)
-reference-fits c = record { sfits = c .struct-told .given .1 .1 .1 .1 .1 .1 .1 .0 .1 }
+-- what the code tests
+limit-is : (c : tie.After-meets-limit)
+    → not (eqb (ofZ w16 (c .before .before .before .args .x)) (ofZ w16 (c .before .before .before .args .channel .last))) && c .meets-limit .result
+    ≡ not (eqZ (c .before .before .before .args .x) (c .before .before .before .args .channel .last)) && meetsLimit (c .before .before .before .args .x) (c .before .before .before .args .channel)
+limit-is c =
+    let start = c .before .before .before in
+    let last : SFits w16 (start .args .channel .last) = record { sfits = c .before .struct-told .given .1 .1 .1 .1 .1 .1 .0 .1 } in
+    ap₂ (λ (s l : Bool). not s && l) (equal-bits w16 (start .args .x) (start .args .channel .last) (start .fits .x) last)
+    (c .meets-limit .ensures ∙ ap (λ (z : ℤ). meetsLimit z (start .args .channel)) (toZ-ofZ (start .fits .x)))
 
 returns : tie.Need-returns
 returns c =
-    let rise = c .before .before .before .before .before .before .before .before .before .before in
-    let fall = rise .before in
-    let from = fall .before in
-    let told = from .before in
-    let to = told .before in
-    let start = to .before in
-    let m = start .args .channel in
-    let x = start .args .x in
-    let to-is : to .raise .result ≡ raised 32768 x = to .raise .ensures ∙ ap (raised 32768) (toZ-ofZ (start .fits .x)) in
-    let from-is : from .raise2 .result ≡ raised 32768 (m .reference) = from .raise2 .ensures ∙ ap (raised 32768) (toZ-ofZ (reference-fits told)) in
-    meets-is m x (start .fits .x .sfits) (reference-fits told .sfits) _ _ _ (fall .gap .result) (rise .gap2 .result)
-    (λ i. ltZ (toZ-ofZ (upper-fits told) i) (widened-is w16 w32 tt x (start .fits .x) i))
-    (λ i. ltZ (widened-is w16 w32 tt x (start .fits .x) i) (toZ-ofZ (lower-fits told) i))
-    (equal-bits w16 x (m .last) (start .fits .x) (last-fits told))
-    (fall .gap .ensures ∙ rw (from-is, to-is)) (rise .gap2 .ensures ∙ rw (from-is, to-is))
+    let start = c .before .before .before .before in
+    sym (meets-parts (start .args .channel) (start .args .x)
+    ∙ ap (λ (b : Bool). b || meetsDelta (start .args .x) (start .args .channel)) (sym (limit-is (c .before)) ∙ c .if1 .taken))
+
+meets-delta-requires : tie.Need-meets-delta-requires
+meets-delta-requires c κs = search needs
+
+returns-2 : tie.Need-returns-2
+returns-2 c =
+    let start = c .before .before .before .before .before in
+    (c .meets-delta .ensures ∙ ap (λ (z : ℤ). meetsDelta z (start .args .channel)) (toZ-ofZ (start .fits .x)))
+    ∙ sym (meets-parts (start .args .channel) (start .args .x)
+    ∙ ap (λ (b : Bool). b || meetsDelta (start .args .x) (start .args .channel)) (sym (limit-is (c .before .before)) ∙ c .before .if1 .left))
 
 pub meets-selected-spec : {M : Type 1} → statement M
-meets-selected-spec =
-    tie.close
-    (tie.spec
-    raise-requires
-    raise-requires-2
-    gap-requires
-    gap-requires-2
-    cast-upper
-    cast-lower
-    returns)
+meets-selected-spec = tie.close (tie.spec meets-limit-requires returns meets-delta-requires returns-2)
