@@ -24,9 +24,9 @@ pub struct SampledInputs {
 }
 
 pub struct SourcesRead {
-    pub channels: [AnalogueInput; 16],
     // Bit n - 1 for channel n.
     pub sources: u16,
+    pub channels: [AnalogueInput; 16],
 }
 
 // Counted up from -32,768, so that no difference of two wraps.
