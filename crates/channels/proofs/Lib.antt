@@ -6,6 +6,7 @@ pub mod TwosComplement
 pub mod ByteLaws
 pub mod MeetsLaws
 pub mod Mapped
+pub mod SourceLaws
 pub mod SetLaws
 pub mod Gathered
 pub mod WriteLaws

@@ -6,11 +6,11 @@ use profile::AnalogueInput;
 ghost use mathlib.Core.Path.{_≡_};
 ghost use Prim.Native.Nat.{_*_, _^_, _<_};
 ghost use lib.ListN.{length};
-ghost use Rattle.profile.specs.Bits.{bit};
+ghost use Rattle.profile.specs.Bits.{bit, gather};
 ghost use Rattle.profile.specs.Entries.{inputSize};
 ghost use Rattle.profile.specs.Analogue.{meets, readAnalogueInput, writeAnalogueInput};
 ghost use Rattle.channels.specs.Numbers.{raised};
-ghost use Rattle.channels.specs.Promises.{meetsLimit, meetsDelta, still, Sampled, AllSampled, SourcesTaken, InputWritten};
+ghost use Rattle.channels.specs.Promises.{inputOf, meetsLimit, meetsDelta, still, Sampled, AllSampled, SourcesTaken, InputWritten};
 
 pub struct SampledChannel {
     pub channel: AnalogueInput,
@@ -21,12 +21,6 @@ pub struct SampledInputs {
     pub channels: [AnalogueInput; 16],
     // Bit n - 1 for channel n.
     pub events: u16,
-}
-
-pub struct SourcesRead {
-    // Bit n - 1 for channel n.
-    pub sources: u16,
-    pub channels: [AnalogueInput; 16],
 }
 
 // Counted up from -32,768, so that no difference of two wraps.
@@ -131,26 +125,38 @@ pub fn sample_all(channels: [AnalogueInput; 16], xs: &[i16], on: bool) -> Sample
     }
 }
 
-// A read of 6422:1 answers the source bits, then clears them all.
-pub fn take_sources(channels: [AnalogueInput; 16]) -> SourcesRead
-    ensures { λ r. ⌜ SourcesTaken channels (r .sources) (r .channels) ⌝ }
+// The source bits that a read of 6422:1 answers, bit n - 1 for channel n.
+pub fn read_sources(channels: [AnalogueInput; 16]) -> u32
+    ensures { λ r. ⌜ r ≡ gather 16 (λ n. inputOf channels n .source) ⌝ }
 {
-    let mut next = channels;
     let mut sources: u32 = 0;
     let mut weight: u32 = 1;
     let mut i: usize = 0;
     while i < 16 {
-        let mut channel = next[i];
+        let channel = channels[i];
         sources += weigh(channel.source, weight);
-        channel.source = false;
-        next[i] = channel;
         weight *= 2;
         i += 1;
     }
-    SourcesRead {
-        sources: sources as u16,
-        channels: next,
+    sources
+}
+
+// The channels with their source bits cleared, up to the last one that is set.
+pub fn clear_sources(channels: [AnalogueInput; 16], sources: u32) -> [AnalogueInput; 16]
+    requires { ⌜ sources ≡ gather 16 (λ n. inputOf channels n .source) ⌝ }
+    ensures { λ r. ⌜ SourcesTaken channels sources r ⌝ }
+{
+    let mut next = channels;
+    let mut rest = sources;
+    let mut i: usize = 0;
+    while 0 < rest {
+        let mut channel = next[i];
+        channel.source = false;
+        next[i] = channel;
+        rest = rest / 2;
+        i += 1;
     }
+    next
 }
 
 // The value that an index has for a channel, as an unsigned number.

@@ -3,15 +3,19 @@
 use mathlib.Core.Path.{_≡_, refl, ap, ap₂, _∙_, sym}
 use mathlib.Core.Bool.{Bool, true, false, not, cond, _||_, _&&_, false≢true}
 use mathlib.Core.List.{List, [], _∷_, _++_}
+use mathlib.Core.Logic.{_⊎_, ⊎-elim}
 use Prim.Native.Nat.{ℕ, _<_, _≤_}
 use native.Mathlib.Omega.{arith}
 use lib.Dec.{eqb}
 use lib.ListN.{length, getD}
 use lib.IntN.{ℤ, pos}
-use borrow.Author.Tests.{eq-eqb, ne-eqb, eqb-true, not-false}
+use borrow.Author.Tests.{eq-eqb, ne-eqb, eqb-true, eqb-false, not-false}
 use Rattle.profile.specs.declared.Node.{Node}
 use Rattle.profile.specs.declared.Cause.{Cause}
 use Rattle.profile.specs.declared.Entry.{Entry}
+use Rattle.profile.specs.declared.Entry.the-variants.{Absent, Constant, Window, Input, Output, Sources}
+use Rattle.profile.specs.declared.Entry.the-variants as entry
+use Rattle.profile.specs.declared.AnalogueInput.{AnalogueInput}
 use Rattle.profile.specs.Bits.{gather}
 use Rattle.profile.specs.Bytes.{littleEndian, listFrom, bytes, lineBit}
 use Rattle.profile.specs.declared.AnalogueOutput.{AnalogueOutput}
@@ -27,7 +31,7 @@ use Rattle.profile.specs.Nodes.{operational, fault, raiseNode, clearNode, addre
 use Rattle.profile.specs.Entries.{entryOf, sizeOf}
 use Rattle.profile.specs.Calls.{Call, Reply, read, write, sample, command, raise, clear, drive}
 use Rattle.profile.specs.Refusals.{_⇒_, createRefusal, createdNumber, Conditions, conditions, first, entryChecks, accessChecks, valueChecks, readRefusal, writeRefusal, sampleRefusal, driveRefusal, refusal, accepted}
-use Rattle.profile.specs.Machines.{Kind, nodeAlone, inputLine, outputLine, analogueInput, analogueOutput, Machine, count, Own, fresh, step, moveOwn, commandOwn}
+use Rattle.profile.specs.Machines.{Kind, nodeAlone, inputLine, outputLine, analogueInput, analogueOutput, Machine, count, Own, fresh, step, moveOwn, commandOwn, readsSources, clearOwn}
 use Rattle.profile.specs.Replies.{Machines, freshMachines, readValue, plain, readReply, sampleReply, driveReply, lineEvents, channelEvents, answer, refuse, reply}
 use Rattle.profile.specs.Lists.{Same, stepAll, Outcome}
 use Rattle.profile.proofs.ListLaws.{bytes-cong}
@@ -39,7 +43,8 @@ use Rattle.device.specs.declared.Device.{Device}
 use Rattle.device.specs.View.{ownOf, machinesOf}
 use Rattle.device.specs.declared.Created.{Created}
 use Rattle.device.specs.Promises.{CreatedAs, moved, wrote, hasRead}
-use Rattle.device.proofs.MachineLaws.{by-kind, same-machine}
+use Rattle.channels.proofs.SourceLaws.{no-source, cleared-already}
+use Rattle.device.proofs.MachineLaws.{by-kind, same-machine, read-same, sources-read}
 
 -- ---- refused and accepted calls
 
@@ -105,6 +110,79 @@ read-outcome d r index sub value size e v z s =
     accepted-outcome d r (read index sub) (readReply value size) e
     (λ t. record { at = λ k i h. s .at k i h ∙ sym (read-step k i index sub (entryOf index sub) (machinesOf d k i) refl t) })
     (ap₂ readReply v z)
+
+-- ---- a read with the source bits that it takes
+
+-- nothing to clear where no source bit is set
+nothing-taken : (inputs : List AnalogueInput) → 0 ≡ gather 16 (λ n. channel.inputOf inputs n .source) → channel.SourcesTaken inputs 0 inputs
+nothing-taken inputs e =
+    record {
+      sources-are = e;
+      channels = λ n h. cleared-already _ (no-source (λ k. channel.inputOf inputs k .source) 0 0 0 n e refl (omega arith) (omega arith) h);
+    }
+
+taken-sources : (d : Device) (e : Entry) (t v : ℕ) → v ≡ readValue (machinesOf d) e → t ≡ cond (readsSources e) v 0 → readsSources e ≡ true → t ≡ gather 16 (λ n. channel.inputOf (d .inputs) n .source)
+unfolding readValue
+taken-sources d (Absent code) t v ev et h = absurd (false≢true h)
+taken-sources d (Constant size x) t v ev et h = absurd (false≢true h)
+taken-sources d (Window row w s) t v ev et h = absurd (false≢true h)
+taken-sources d (Input index n) t v ev et h = absurd (false≢true h)
+taken-sources d (Output index n) t v ev et h = absurd (false≢true h)
+taken-sources d Sources t v ev et h = et ∙ ev
+taken-sources d (entry.Device index) t v ev et h = absurd (false≢true h)
+
+-- the device with other inputs
+abbrev pub withInputs : Device → List AnalogueInput → Device
+withInputs d inputs = record { node = d .node; lines = d .lines; inputs = inputs; outputs = d .outputs }
+
+sources-same : (d : Device) (e : Entry) (t : ℕ) (inputs : List AnalogueInput) → readsSources e ≡ true → channel.SourcesTaken (d .inputs) t inputs → Same (machinesOf (withInputs d inputs)) (hasRead e d)
+sources-same d e t inputs h s =
+    record {
+      at = λ k i l.
+          sources-read d (withInputs d inputs) t refl refl s refl .at k i l
+          ∙ ap (λ (b : Bool). record { node = d .node; own = cond b (clearOwn k (ownOf d k i)) (ownOf d k i) }) (sym h);
+    }
+
+-- the inputs after a read: cleared where a source bit was taken, else those before
+module _ (d : Device) (e : Entry) (t v : ℕ) (inputs : List AnalogueInput) (ev : v ≡ readValue (machinesOf d) e) where
+  inputs-by : (b : Bool) → readsSources e ≡ b → t ≡ cond b v 0 → ((t ≡ 0 → ⊥) × channel.SourcesTaken (d .inputs) t inputs) ⊎ ((t ≡ 0) × (inputs ≡ d .inputs))
+      → Same (machinesOf (withInputs d inputs)) (hasRead e d)
+  inputs-by true h et came =
+      ⊎-elim (λ s. sources-same d e t inputs h (s .1))
+      (λ s. rw (s .1) (sources-same d e 0 (d .inputs) h (nothing-taken (d .inputs) (sym (s .0) ∙ taken-sources d e t v ev (rw h et) h)))) came
+  inputs-by false h et came = ⊎-elim (λ s. absurd (s .0 et)) (λ s. rw (s .1) (read-same d e h)) came
+
+  inputs-after : t ≡ cond (readsSources e) v 0 → ((t ≡ 0 → ⊥) × channel.SourcesTaken (d .inputs) t inputs) ⊎ ((t ≡ 0) × (inputs ≡ d .inputs))
+      → Same (machinesOf (withInputs d inputs)) (hasRead e d)
+  inputs-after = inputs-by (readsSources e) refl
+
+module _ (d : Device) (index sub n t v value size : ℕ) (inputs : List AnalogueInput)
+    (numbered : n ≡ first (entryChecks (conditions (d .node)) (entryOf index sub))) (ev : v ≡ readValue (machinesOf d) (entryOf index sub))
+    (came : ((t ≡ 0 → ⊥) × channel.SourcesTaken (d .inputs) t inputs) ⊎ ((t ≡ 0) × (inputs ≡ d .inputs))) where
+  done-by : (b : Bool) → eqb n 0 ≡ b → t ≡ cond (b && readsSources (entryOf index sub)) v 0 → value ≡ cond b v 0 → size ≡ cond b (sizeOf (entryOf index sub)) 0
+      → Outcome (machinesOf d) (read index sub) (record { number = n; value = value; size = size; events = 0; bytes = []; numbers = [] }) (machinesOf (withInputs d inputs))
+  unfolding refusal readRefusal refuse
+  done-by true h et es ez =
+      let z : n ≡ 0 = eqb-true n 0 h in
+      rw z
+      (read-outcome d (withInputs d inputs) index sub value size (sym numbered ∙ z) (es ∙ ev) ez (inputs-after d (entryOf index sub) t v inputs ev et came))
+  done-by false h et es ez =
+      let same : inputs ≡ d .inputs = ⊎-elim (λ s. absurd (s .0 et)) (λ s. s .1) came in
+      rw (same, es, ez) (refused-outcome d (read index sub) n numbered (eqb-false n 0 h))
+
+  pub read-done : t ≡ cond (eqb n 0 && readsSources (entryOf index sub)) v 0 → value ≡ cond (eqb n 0) v 0 → size ≡ cond (eqb n 0) (sizeOf (entryOf index sub)) 0
+      → Outcome (machinesOf d) (read index sub) (record { number = n; value = value; size = size; events = 0; bytes = []; numbers = [] }) (machinesOf (withInputs d inputs))
+  read-done = done-by (eqb n 0) refl
+
+-- what clearing asks: the source bits are taken
+pub taken-all : (d : Device) (e : Entry) (b : Bool) (t v : ℕ) → v ≡ readValue (machinesOf d) e → t ≡ cond (b && readsSources e) v 0 → (t ≡ 0 → ⊥)
+    → t ≡ gather 16 (λ n. channel.inputOf (d .inputs) n .source)
+taken-all d e true t v ev et ne = go (readsSources e) refl et
+  where
+    go : (r : Bool) → readsSources e ≡ r → t ≡ cond r v 0 → t ≡ gather 16 (λ n. channel.inputOf (d .inputs) n .source)
+    go true h et' = taken-sources d e t v ev et h
+    go false h et' = absurd (ne et')
+taken-all d e false t v ev et ne = absurd (ne et)
 
 pub write-outcome : (d r : Device) (index sub : ℕ) (payload : List ℕ) → first (accessChecks (conditions (d .node)) (entryOf index sub) (length payload)) ≡ 0
     → first (valueChecks (entryOf index sub) (littleEndian payload)) ≡ 0 → Same (machinesOf r) (wrote (entryOf index sub) (littleEndian payload) d)

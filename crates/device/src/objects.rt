@@ -2,8 +2,9 @@
 use crate::Answer;
 use crate::Device;
 use crate::ReadAnswer;
+use channels::inputs::clear_sources;
 use channels::inputs::read_input;
-use channels::inputs::take_sources;
+use channels::inputs::read_sources;
 use channels::inputs::write_inputs;
 use channels::numbers::number;
 use channels::outputs::read_output;
@@ -13,32 +14,52 @@ use profile::refusals::access_refusal;
 use profile::refusals::entry_refusal;
 use profile::refusals::value_refusal;
 ghost use mathlib.Core.Path.{_≡_};
+ghost use mathlib.Core.Bool.{cond, _&&_};
+ghost use lib.Dec.{eqb};
 ghost use Rattle.profile.specs.Calls.{Call};
-ghost use Rattle.profile.specs.Replies.{readValue};
+ghost use Rattle.profile.specs.Entries.{sizeOf};
+ghost use Rattle.profile.specs.Machines.{readsSources};
 ghost use Rattle.profile.specs.Lists.{Same, Outcome};
 ghost use Rattle.device.specs.View.{machinesOf, readAnswer, plainAnswer};
-ghost use Rattle.device.specs.Promises.{wrote, hasRead, Readable, Writable};
+ghost use Rattle.device.specs.Promises.{wrote, Writable};
 
 impl Device {
+    // With one exit, and its parts read here: each function that took the device, and each further exit, would copy it once more.
     pub fn read(mut self, index: u16, sub: u8) -> ReadAnswer
         ensures { λ r. ⌜ Outcome (machinesOf self) (Call.read index sub) (readAnswer r) (machinesOf (r .device)) ⌝ }
     {
         let entry = Entry::find(index, sub);
         let node = self.node;
+        let lines = self.lines;
+        let mut inputs = self.inputs;
+        let outputs = self.outputs;
         let refused = entry_refusal(node.is_stopped(), entry);
-        if refused != 0 {
-            return ReadAnswer {
-                number: refused,
-                value: 0,
-                size: 0,
-                device: self,
-            };
+        let value = match entry {
+            Entry::Absent(_) => 0,
+            Entry::Constant(_, value) => value,
+            Entry::Window(row, width, sub) => lines.read(row, width, sub),
+            Entry::Input(index, n) => {
+                let channel = inputs[n];
+                read_input(channel, index)
+            }
+            Entry::Output(index, n) => {
+                let channel = outputs[n];
+                read_output(channel, index)
+            }
+            Entry::Sources => read_sources(inputs),
+            Entry::Device(index) => node.read(index),
+        };
+        let taken = taken_sources(entry, refused, value);
+        if taken != 0 {
+            inputs = clear_sources(inputs, taken);
         }
+        self.inputs = inputs;
+        let shown = show(entry, refused, value);
         ReadAnswer {
-            number: 0,
-            value: self.value(entry),
-            size: entry.size(),
-            device: self.after_read(entry),
+            number: refused,
+            value: shown.value,
+            size: shown.size,
+            device: self,
         }
     }
 
@@ -66,52 +87,6 @@ impl Device {
             number: 0,
             device: self.after_write(entry, value),
         }
-    }
-
-    // What a read of an entry answers.
-    fn value(self, entry: Entry) -> u32
-        requires { ⌜ Readable entry ⌝ }
-        ensures { λ r. ⌜ r ≡ readValue (machinesOf self) entry ⌝ }
-    {
-        match entry {
-            Entry::Absent(_) => 0,
-            Entry::Constant(_, value) => value,
-            Entry::Window(row, width, sub) => {
-                let lines = self.lines;
-                lines.read(row, width, sub)
-            }
-            Entry::Input(index, n) => {
-                let channel = self.inputs[n];
-                read_input(channel, index)
-            }
-            Entry::Output(index, n) => {
-                let channel = self.outputs[n];
-                read_output(channel, index)
-            }
-            Entry::Sources => {
-                let channels = self.inputs;
-                let taken = take_sources(channels);
-                taken.sources as u32
-            }
-            Entry::Device(index) => {
-                let node = self.node;
-                node.read(index)
-            }
-        }
-    }
-
-    // Only 6422:1 changes with a read.
-    fn after_read(mut self, entry: Entry) -> Device
-        ensures { λ r. ⌜ Same (machinesOf r) (hasRead entry self) ⌝ }
-    {
-        if let Entry::Sources = entry {
-            let channels = self.inputs;
-            let taken = take_sources(channels);
-            let cleared = taken.channels;
-            self.inputs = cleared;
-            return self;
-        }
-        self
     }
 
     fn after_write(mut self, entry: Entry, value: u32) -> Device
@@ -146,4 +121,36 @@ impl Device {
             }
         }
     }
+}
+
+// What a read shows: nothing where it is refused.
+struct Shown {
+    value: u32,
+    // In bytes.
+    size: usize,
+}
+
+fn show(entry: Entry, refused: u32, value: u32) -> Shown
+    ensures { λ r. ⌜ (r .value ≡ cond (eqb refused 0) value 0) × (r .size ≡ cond (eqb refused 0) (sizeOf entry) 0) ⌝ }
+{
+    if refused != 0 {
+        return Shown { value: 0, size: 0 };
+    }
+    Shown {
+        value,
+        size: entry.size(),
+    }
+}
+
+// The source bits that a read of an entry clears: those that an accepted read of 6422:1 answers.
+fn taken_sources(entry: Entry, refused: u32, value: u32) -> u32
+    ensures { λ r. ⌜ r ≡ cond (eqb refused 0 && readsSources entry) value 0 ⌝ }
+{
+    if refused != 0 {
+        return 0;
+    }
+    if let Entry::Sources = entry {
+        return value;
+    }
+    0
 }
