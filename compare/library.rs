@@ -17,7 +17,6 @@ struct Node {
 #[derive(Clone, Copy)]
 #[repr(C)]
 struct Input {
-    selection: u8,
     upper: i32,
     lower: i32,
     delta: u32,
@@ -25,6 +24,7 @@ struct Input {
     positive: u32,
     last: i16,
     reference: i16,
+    selection: u8,
     source: bool,
 }
 

@@ -77,7 +77,6 @@ typedef struct io401_node {
 } io401_node;
 
 typedef struct io401_input {
-    uint8_t selection;  /* 6421 */
     int32_t upper;      /* 6424 */
     int32_t lower;      /* 6425 */
     uint32_t delta;     /* 6426 */
@@ -85,6 +84,7 @@ typedef struct io401_input {
     uint32_t positive;  /* 6428 */
     int16_t last;       /* 6401 */
     int16_t reference;  /* the number of the last event */
+    uint8_t selection;  /* 6421 */
     bool source;        /* the channel's bit of 6422:1 */
 } io401_input;
 
@@ -137,31 +137,31 @@ static_assert(offsetof(io401_node, lost) == 3, "io401_node.lost");
 static_assert(offsetof(io401_node, behaviour) == 4, "io401_node.behaviour");
 static_assert(offsetof(io401_node, digital) == 5, "io401_node.digital");
 static_assert(offsetof(io401_node, analogue) == 6, "io401_node.analogue");
-static_assert(sizeof(io401_input) == 32, "io401_input");
-static_assert(offsetof(io401_input, upper) == 4, "io401_input.upper");
-static_assert(offsetof(io401_input, lower) == 8, "io401_input.lower");
-static_assert(offsetof(io401_input, delta) == 12, "io401_input.delta");
-static_assert(offsetof(io401_input, negative) == 16, "io401_input.negative");
-static_assert(offsetof(io401_input, positive) == 20, "io401_input.positive");
-static_assert(offsetof(io401_input, last) == 24, "io401_input.last");
-static_assert(offsetof(io401_input, reference) == 26, "io401_input.reference");
-static_assert(offsetof(io401_input, source) == 28, "io401_input.source");
+static_assert(sizeof(io401_input) == 28, "io401_input");
+static_assert(offsetof(io401_input, lower) == 4, "io401_input.lower");
+static_assert(offsetof(io401_input, delta) == 8, "io401_input.delta");
+static_assert(offsetof(io401_input, negative) == 12, "io401_input.negative");
+static_assert(offsetof(io401_input, positive) == 16, "io401_input.positive");
+static_assert(offsetof(io401_input, last) == 20, "io401_input.last");
+static_assert(offsetof(io401_input, reference) == 22, "io401_input.reference");
+static_assert(offsetof(io401_input, selection) == 24, "io401_input.selection");
+static_assert(offsetof(io401_input, source) == 25, "io401_input.source");
 static_assert(sizeof(io401_output) == 8, "io401_output");
 static_assert(offsetof(io401_output, error) == 2, "io401_output.error");
 static_assert(offsetof(io401_output, kept) == 4, "io401_output.kept");
 static_assert(offsetof(io401_output, driven) == 6, "io401_output.driven");
 static_assert(sizeof(io401_lines) == 224, "io401_lines");
-static_assert(sizeof(io401_device) == 808, "io401_device");
+static_assert(sizeof(io401_device) == 744, "io401_device");
 static_assert(offsetof(io401_device, lines) == 8, "io401_device.lines");
 static_assert(offsetof(io401_device, inputs) == 232, "io401_device.inputs");
-static_assert(offsetof(io401_device, outputs) == 744, "io401_device.outputs");
-static_assert(sizeof(io401_answer) == 816, "io401_answer");
+static_assert(offsetof(io401_device, outputs) == 680, "io401_device.outputs");
+static_assert(sizeof(io401_answer) == 752, "io401_answer");
 static_assert(offsetof(io401_answer, device) == 8, "io401_answer.device");
-static_assert(sizeof(io401_read_answer) == 824, "io401_read_answer");
+static_assert(sizeof(io401_read_answer) == 760, "io401_read_answer");
 static_assert(offsetof(io401_read_answer, value) == 4, "io401_read_answer.value");
 static_assert(offsetof(io401_read_answer, size) == 8, "io401_read_answer.size");
 static_assert(offsetof(io401_read_answer, device) == 16, "io401_read_answer.device");
-static_assert(sizeof(io401_sample_answer) == 816, "io401_sample_answer");
+static_assert(sizeof(io401_sample_answer) == 752, "io401_sample_answer");
 static_assert(offsetof(io401_sample_answer, events) == 4, "io401_sample_answer.events");
 static_assert(offsetof(io401_sample_answer, device) == 8, "io401_sample_answer.device");
 
