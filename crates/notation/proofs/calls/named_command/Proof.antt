@@ -1,8 +1,9 @@
 -- `calls::named_command` meets its contract.
 -- Assumes nothing.
 use Rattle.notation.specs.Ascii.{ascii}
-use Rattle.notation.specs.Words.{isWord}
-use Rattle.notation.specs.Meanings.{namedCommand}
+use Rattle.notation.specs.Words.{wordsOf, isWord}
+use Rattle.notation.specs.Meanings.{namedMeaning, namedCommand}
+use Rattle.notation.specs.Promises.{SaysPlain}
 use Rattle.notation.proofs.SplitLaws.{same-word}
 use Rattle.notation.proofs.MeaningLaws.{yes, no, says-as}
 use denote.Ref.{now}
@@ -23,7 +24,9 @@ command-to-requires c κs = search needs
 
 returns : tie.Need-returns
 unfolding namedCommand
-returns c = λ bytes numbers events. says-as (yes (isWord (now (c .before .before .before .before .before .before .args .word)) (ascii "start")) _ _ (sym (same-word (now (c .before .before .before .before .before .before .args .word)) (ascii "start") (c .before .before .same .result) (c .before .before .same .ensures)) ∙ c .before .if1 .taken)) (c .command-to .ensures _ bytes numbers events)
+returns c =
+    let says : SaysPlain (namedMeaning 1 (wordsOf (now (c .before .before .before .before .before .before .args .rest)))) (c .command-to .result) = c .command-to .ensures in
+    λ bytes numbers events. says-as (yes (isWord (now (c .before .before .before .before .before .before .args .word)) (ascii "start")) _ _ (sym (same-word (now (c .before .before .before .before .before .before .args .word)) (ascii "start") (c .before .before .same .result) (c .before .before .same .ensures)) ∙ c .before .if1 .taken)) (says _ bytes numbers events)
 
 slice-aggregate-same-2 : tie.Need-slice-aggregate-same-2
 slice-aggregate-same-2 c = search needs

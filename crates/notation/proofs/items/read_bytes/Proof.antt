@@ -45,7 +45,8 @@ same-length c = c .before .before .before .before .before .before .before .loop 
 returns : tie.Need-returns Inv-loop μ-loop
 returns c =
     let on = over-there (now (c .before .before .before .before .before .before .back .result)) (now (c .before .before .before .back2 .result)) _ (c .before .before .before .before .before .is-over .result) (c .before .before .before .before .before .before .back .ensures) (c .before .before .before .back2 .ensures) (c .before .before .before .before .before .is-over .ensures) (not-true _ (c .before .before .before .before .if1 .taken)) in
-    reading-wrong byteItem (now (c .before .before .before .before .before .before .before .before .before .before .args .line)) (c .before .before .before .before .before .before .before .loop .out) (c .before .before .before .before .before .before .before .loop .count) (c .before .before .before .before .before .before .before .loop .at) (c .before .before .before .before .before .before .before .loop .inv .1) (now (c .before .before .before .back2 .result)) (c .before .before .before .back2 .ensures) (c .before .hexadecimal .result) on (c .before .hexadecimal .ensures ∙ ap (byteItem .number) (c .before .before .first-word .ensures)) (c .if2 .taken)
+    let number : c .before .hexadecimal .result ≡ byteItem .number (now (c .before .before .first-word .result)) = c .before .hexadecimal .ensures in
+    reading-wrong byteItem (now (c .before .before .before .before .before .before .before .before .before .before .args .line)) (c .before .before .before .before .before .before .before .loop .out) (c .before .before .before .before .before .before .before .loop .count) (c .before .before .before .before .before .before .before .loop .at) (c .before .before .before .before .before .before .before .loop .inv .1) (now (c .before .before .before .back2 .result)) (c .before .before .before .back2 .ensures) (c .before .hexadecimal .result) on (number ∙ ap (byteItem .number) (c .before .before .first-word .ensures)) (c .if2 .taken)
 
 same-length-2 : tie.Need-same-length-2 Inv-loop μ-loop
 same-length-2 c = c .before .before .before .before .before .before .before .before .loop .inv .0

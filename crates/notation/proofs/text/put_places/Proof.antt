@@ -3,18 +3,19 @@
 use Rattle.notation.proofs.TextLaws.{Placing, placing-none, placing-more, placing-all}
 use borrow.Author.Needs.{needs}
 use native.Mathlib.Omega.{arith}
-use Prim.Native.Nat.{_-_, _≤_}
+use Prim.Native.Nat.{_-_}
+use denote.Ref.{now}
 use Rattle.notation.proofs.text.put_places.Statement.{statement}
 use Rattle.notation.proofs.text.put_places.Tie as tie
 
 abbrev Inv-loop : tie.InvT-loop
-Inv-loop out₀ at bits next₀ rest₀ n₀ out next rest n = (n ≤ 17) × (1 ≤ n) × Placing bits out₀ at n rest out next
+Inv-loop out₀ at bits next₀ rest₀ n₀ out next rest n = Placing bits out₀ at n rest out next
 
 abbrev μ-loop : tie.MeasureT-loop
 μ-loop out₀ at bits next₀ rest₀ n₀ out next rest n = 17 - n
 
 loop-holds : tie.Need-loop-holds Inv-loop μ-loop
-loop-holds c = (omega arith, omega arith, placing-none _ _ _)
+loop-holds c = placing-none (c .before .args .bits) (now (c .before .args .out)) (c .before .args .at)
 
 put-place-requires : tie.Need-put-place-requires Inv-loop μ-loop
 put-place-requires c κs = search needs
@@ -26,13 +27,13 @@ loop-less : tie.Need-loop-less Inv-loop μ-loop
 loop-less c = omega arith
 
 loop-again : tie.Need-loop-again Inv-loop μ-loop
-loop-again c = (omega arith, omega arith, placing-more (c .before .before .before .before .loop-test .taken) (c .before .before .before .before .before .loop .inv .2) (c .before .before .put-place .ensures))
+loop-again c = placing-more (c .before .before .before .before .loop-test .taken) (c .before .before .before .before .before .loop .inv) (c .before .before .put-place .ensures)
 
 same-length : tie.Need-same-length Inv-loop μ-loop
-same-length c = c .before .loop .inv .2 .put .kept
+same-length c = c .before .loop .inv .put .kept
 
 returns : tie.Need-returns Inv-loop μ-loop
-returns c = placing-all (c .loop-test .left) (c .before .loop .inv .2)
+returns c = placing-all (c .loop-test .left) (c .before .loop .inv)
 
 pub put-places-spec : {M : Type 1} → statement M
 put-places-spec =
