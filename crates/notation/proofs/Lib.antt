@@ -9,3 +9,4 @@ pub mod MeaningLaws
 pub mod AccessLaws
 pub mod ReadBack
 pub mod AnswerLaws
+pub mod LengthLaws
