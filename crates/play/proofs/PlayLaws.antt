@@ -1,16 +1,18 @@
 -- A call that was counted and answered was played.
 -- Assumes nothing.
 use mathlib.Core.Path.{_≡_, refl, sym, ap, subst, _∙_}
-use mathlib.Core.Bool.{Bool, not}
+use mathlib.Core.Bool.{Bool, true, not}
 use mathlib.Core.List.{List, [], _∷_, _++_}
-use Prim.Native.Nat.{ℕ}
+use Prim.Native.Nat.{ℕ, _+_, _≤_}
 use native.Mathlib.Nat.{add-zero}
+use native.Mathlib.Omega.{arith}
 use lib.ListN.{length, take}
+use lib.Seq.{sets}
 use lib.IntN.{ℤ}
 use lib.Dec.{eqb}
 use Rattle.profile.specs.Calls.{Call, Reply}
 use Rattle.profile.specs.Refusals.{createRefusal, createdNumber}
-use Rattle.profile.specs.Replies.{freshMachines}
+use Rattle.profile.specs.Replies.{freshMachines, reply}
 use Rattle.profile.specs.Lists.{Same, Outcome, stepAll}
 use Rattle.device.specs.declared.Device.{Device}
 use Rattle.device.specs.declared.Created.{Created}
@@ -19,11 +21,12 @@ use Rattle.device.specs.Promises.{CreatedAs}
 use Rattle.notation.specs.Texts.{Put}
 use Rattle.notation.specs.Answers.{plainLine}
 use Rattle.notation.specs.declared.Call.{Call as Said}
+use Rattle.notation.proofs.LengthLaws.{plain-short}
 use Rattle.notation.specs.Meanings.{Meaning}
 use Rattle.notation.specs.Meanings.Meaning.{nothing, create, call}
 use Rattle.notation.specs.Promises.{said, Fitting, Says}
 use Rattle.play.specs.declared.session.Session.{Session}
-use Rattle.play.specs.Playing.{answerLine, counted, Played, Counted}
+use Rattle.play.specs.Playing.{answerLine, machinesFor, counted, isCall, isRefused, isUnknown, Played, PlayedWhole, Emptied, LinePlayed, Counted}
 
 -- what a call leaves of the part that it was lent stands in front of the rest
 pub front-is : {A : Type 0} (n : ℕ) (left rest : List A) → length left ≡ n → take n (left ++ rest) ≡ left
@@ -47,37 +50,84 @@ pub not-played : (before : Session) (out : List ℕ) → Played before nothing o
 not-played before out = record {
   machines = record { at = λ k i h. refl };
   answered = record { kept = refl; inside = λ h. h; moved = λ h. sym (add-zero (before .at)); written = λ h. refl };
+  short = omega arith;
+  text = λ h. refl;
+  place = λ h. sym (add-zero (before .at));
   calls = refl;
   refused = refl;
   unknown = refl;
   lines = refl;
   length = refl;
   ended = refl;
+  failed = refl;
 }
+
+-- text of at most a kilobyte, put where the block has a kilobyte left
+module _ (text out : List ℕ) (at : ℕ) (left : List ℕ) (next : ℕ) (p : Put text out at left next) (b : length text ≤ 1024) (l : length out ≡ 8192) where
+  pub all-written : at ≤ 7168 → left ≡ sets out at text
+  all-written h = p .written (omega (arith, h, b, l))
+
+  pub all-moved : at ≤ 7168 → next ≡ at + length text
+  all-moved h = p .moved (omega (arith, h, b, l))
 
 module _ (before : Session) (out left : List ℕ) (after : Session) where
   pub called : (c : Call) (r : Reply) (d : Device) (place : ℕ) → Outcome (machinesOf (before .device)) c r (machinesOf d) → Counted before d (r .number) place after →
-      Put (answerLine c r) out (before .at) left place → Played before (call c) out after left
-  called c r d place o k p = record {
-    machines = subst (λ (x : Device). Same (machinesOf x) (stepAll c (machinesOf (before .device)))) (sym (k .device)) (o .machines);
-    answered = subst (λ (x : Reply). Put (answerLine c x) out (before .at) left (after .at)) (o .replied) (subst (λ n. Put (answerLine c r) out (before .at) left n) (sym (k .at)) p);
-    calls = k .calls;
-    refused = k .refused ∙ ap (λ (x : Reply). counted (not (eqb (x .number) 0)) (before .refused)) (o .replied);
-    unknown = k .unknown;
-    lines = k .lines;
-    length = k .length;
-    ended = k .ended;
-  }
+      Put (answerLine c r) out (before .at) left place → length (answerLine c r) ≤ 1024 → length out ≡ 8192 → Played before (call c) out after left
+  called c r d place o k p b l =
+      let put : Put (answerLine c (reply (machinesOf (before .device)) c)) out (before .at) left (after .at) =
+      subst (λ (x : Reply). Put (answerLine c x) out (before .at) left (after .at)) (o .replied) (subst (λ n. Put (answerLine c r) out (before .at) left n) (sym (k .at)) p) in
+      let few : length (answerLine c (reply (machinesOf (before .device)) c)) ≤ 1024 = subst (λ (x : Reply). length (answerLine c x) ≤ 1024) (o .replied) b in
+      record {
+        machines = subst (λ (x : Device). Same (machinesOf x) (stepAll c (machinesOf (before .device)))) (sym (k .device)) (o .machines);
+        answered = put;
+        short = few;
+        text = all-written (answerLine c (reply (machinesOf (before .device)) c)) out (before .at) left (after .at) put few l;
+        place = all-moved (answerLine c (reply (machinesOf (before .device)) c)) out (before .at) left (after .at) put few l;
+        calls = k .calls;
+        refused = k .refused ∙ ap (λ (x : Reply). counted (not (eqb (x .number) 0)) (before .refused)) (o .replied);
+        unknown = k .unknown;
+        lines = k .lines;
+        length = k .length;
+        ended = k .ended;
+        failed = k .failed;
+      }
 
   pub created : (node : ℕ) (made : Created) (place : ℕ) → CreatedAs node made → Counted before (made .device) (made .number) place after →
-      Put (plainLine (made .number)) out (before .at) left place → Played before (create node) out after left
-  created node made place o k p = record {
-    machines = subst (λ (x : Device). Same (machinesOf x) (freshMachines (createdNumber node))) (sym (k .device)) (o .machines);
-    answered = subst (λ n. Put (plainLine n) out (before .at) left (after .at)) (o .numbered) (subst (λ n. Put (plainLine (made .number)) out (before .at) left n) (sym (k .at)) p);
-    calls = k .calls;
-    refused = k .refused ∙ ap (λ n. counted (not (eqb n 0)) (before .refused)) (o .numbered);
-    unknown = k .unknown;
-    lines = k .lines;
-    length = k .length;
-    ended = k .ended;
-  }
+      Put (plainLine (made .number)) out (before .at) left place → length out ≡ 8192 → Played before (create node) out after left
+  created node made place o k p l =
+      let put : Put (plainLine (createRefusal node)) out (before .at) left (after .at) =
+      subst (λ n. Put (plainLine n) out (before .at) left (after .at)) (o .numbered) (subst (λ n. Put (plainLine (made .number)) out (before .at) left n) (sym (k .at)) p) in
+      record {
+        machines = subst (λ (x : Device). Same (machinesOf x) (freshMachines (createdNumber node))) (sym (k .device)) (o .machines);
+        answered = put;
+        short = plain-short (createRefusal node);
+        text = all-written (plainLine (createRefusal node)) out (before .at) left (after .at) put (plain-short (createRefusal node)) l;
+        place = all-moved (plainLine (createRefusal node)) out (before .at) left (after .at) put (plain-short (createRefusal node)) l;
+        calls = k .calls;
+        refused = k .refused ∙ ap (λ n. counted (not (eqb n 0)) (before .refused)) (o .numbered);
+        unknown = k .unknown;
+        lines = k .lines;
+        length = k .length;
+        ended = k .ended;
+        failed = k .failed;
+      }
+
+  pub whole : (m : Meaning) → before .at ≤ 7168 → Played before m out after left → PlayedWhole before m out after left
+  whole m h p = record { played = p; text = p .text h; place = p .place h }
+
+-- a line that was begun, played and written out
+pub line-played : (held begun played after : Session) (m n : Meaning) (out left : List ℕ) → Played begun m out played left → Emptied played after → m ≡ n →
+    begun .device ≡ held .device → begun .calls ≡ held .calls → begun .refused ≡ held .refused → begun .unknown ≡ held .unknown → begun .lines ≡ counted true (held .lines) → begun .length ≡ 0 →
+    LinePlayed held n after
+line-played held begun played after m n out left p w e d c r u l z =
+    subst (λ (x : Meaning). LinePlayed held x after) e record {
+      machines =
+          subst (λ (x : Device). Same (machinesOf x) (machinesFor (machinesOf (held .device)) m)) (sym (w .device))
+          (subst (λ (x : Device). Same (machinesOf (played .device)) (machinesFor (machinesOf x) m)) d (p .machines));
+      calls = w .calls ∙ p .calls ∙ ap (counted (isCall m)) c;
+      refused = w .refused ∙ p .refused ∙ ap (counted (isRefused (machinesOf (begun .device)) m)) r ∙ ap (λ (x : Device). counted (isRefused (machinesOf x) m) (held .refused)) d;
+      unknown = w .unknown ∙ p .unknown ∙ ap (counted (isUnknown m)) u;
+      lines = w .lines ∙ p .lines ∙ l;
+      length = w .length ∙ p .length ∙ z;
+      room = w .room;
+    }

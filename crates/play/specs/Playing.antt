@@ -1,10 +1,12 @@
 -- What playing a line does: the answer that document 01's machines give, as the notation writes it, the machines after it, and the counts.
 -- Assumes nothing.
 use mathlib.Core.Path.{_≡_}
-use mathlib.Core.Bool.{Bool, true, false, not}
+use mathlib.Core.Bool.{Bool, true, false, not, cond}
 use mathlib.Core.List.{List, []}
-use Prim.Native.Nat.{ℕ, _+_, _%_, _^_}
-use lib.Dec.{eqb}
+use Prim.Native.Nat.{ℕ, _+_, _%_, _^_, _≤_}
+use lib.Dec.{eqb, ltb}
+use lib.ListN.{length, take}
+use lib.Seq.{sets}
 use Rattle.profile.specs.Calls.{Call, Reply, read, write, sample, command, raise, clear, drive}
 use Rattle.profile.specs.Refusals.{createRefusal, createdNumber}
 use Rattle.profile.specs.Replies.{Machines, freshMachines, reply}
@@ -13,7 +15,8 @@ use Rattle.device.specs.declared.Device.{Device}
 use Rattle.device.specs.View.{machinesOf}
 use Rattle.notation.specs.Texts.{Put}
 use Rattle.notation.specs.Answers.{plainLine, readLine, writeLine, sampleLine, driveLine, unknownLine}
-use Rattle.notation.specs.Meanings.{Meaning}
+use Rattle.notation.specs.declared.Expected.the-variants as Ex
+use Rattle.notation.specs.Meanings.{Meaning, meaningOf}
 use Rattle.notation.specs.Meanings.Meaning.{nothing, unknown, create, call}
 use Rattle.play.specs.declared.session.Session.{Session}
 
@@ -69,12 +72,48 @@ counted true n = (n + 1) % 2 ^ 64
 pub record Played (before : Session) (m : Meaning) (out : List ℕ) (after : Session) (left : List ℕ) : Type 0 where
   pub machines : Same (machinesOf (after .device)) (machinesFor (machinesOf (before .device)) m)
   pub answered : Put (answerFor (before .lines) (machinesOf (before .device)) m) out (before .at) left (after .at)
+  -- no answer is longer than the room that is kept for it
+  pub short : length (answerFor (before .lines) (machinesOf (before .device)) m) ≤ 1024
+  -- where that room is there, all of it stands in the output, from the place on
+  pub text : before .at ≤ 7168 → left ≡ sets out (before .at) (answerFor (before .lines) (machinesOf (before .device)) m)
+  pub place : before .at ≤ 7168 → after .at ≡ before .at + length (answerFor (before .lines) (machinesOf (before .device)) m)
   pub calls : after .calls ≡ counted (isCall m) (before .calls)
   pub refused : after .refused ≡ counted (isRefused (machinesOf (before .device)) m) (before .refused)
   pub unknown : after .unknown ≡ counted (isUnknown m) (before .unknown)
   pub lines : after .lines ≡ before .lines
   pub length : after .length ≡ before .length
   pub ended : after .ended ≡ before .ended
+  pub failed : after .failed ≡ before .failed
+
+-- playing a line where the room is there
+pub record PlayedWhole (before : Session) (m : Meaning) (out : List ℕ) (after : Session) (left : List ℕ) : Type 0 where
+  pub played : Played before m out after left
+  pub text : left ≡ sets out (before .at) (answerFor (before .lines) (machinesOf (before .device)) m)
+  pub place : after .at ≡ before .at + length (answerFor (before .lines) (machinesOf (before .device)) m)
+
+-- the output has room for the longest answer again, and beside the place nothing changed that an answer can show
+pub record Emptied (before after : Session) : Type 0 where
+  pub room : after .at ≤ 7168
+  pub device : after .device ≡ before .device
+  pub calls : after .calls ≡ before .calls
+  pub refused : after .refused ≡ before .refused
+  pub unknown : after .unknown ≡ before .unknown
+  pub lines : after .lines ≡ before .lines
+  pub length : after .length ≡ before .length
+
+-- what a line of n bytes means, of which as many are held as there is room for: "at most 1,024 bytes"
+abbrev pub lineMeaning : List ℕ → ℕ → Meaning
+lineMeaning held n = cond (ltb (length held) n) (unknown Ex.Shorter) (meaningOf (take n held))
+
+-- a line was played and counted, the next one starts, and its answer has room
+pub record LinePlayed (before : Session) (m : Meaning) (after : Session) : Type 0 where
+  pub machines : Same (machinesOf (after .device)) (machinesFor (machinesOf (before .device)) m)
+  pub calls : after .calls ≡ counted (isCall m) (before .calls)
+  pub refused : after .refused ≡ counted (isRefused (machinesOf (before .device)) m) (before .refused)
+  pub unknown : after .unknown ≡ counted (isUnknown m) (before .unknown)
+  pub lines : after .lines ≡ counted true (before .lines)
+  pub length : after .length ≡ 0
+  pub room : after .at ≤ 7168
 
 -- a call was counted: the device, the call's number and the place in the output are those given
 pub record Counted (before : Session) (d : Device) (number place : ℕ) (after : Session) : Type 0 where
@@ -86,3 +125,4 @@ pub record Counted (before : Session) (d : Device) (number place : ℕ) (after :
   pub lines : after .lines ≡ before .lines
   pub length : after .length ≡ before .length
   pub ended : after .ended ≡ before .ended
+  pub failed : after .failed ≡ before .failed

@@ -15,11 +15,14 @@ use notation::items::first_numbers;
 use profile::Cause;
 use std::num::wrapping_add_u64;
 ghost use Prim.Native.Nat.{_≤_};
+ghost use mathlib.Core.Path.{_≡_};
 ghost use lib.ListN.{length, take};
+ghost use lib.Seq.{sets};
 ghost use Rattle.profile.specs.Calls as Doc;
+ghost use Rattle.notation.specs.Answers.{totalsText};
 ghost use Rattle.notation.specs.Meanings.{meaningOf};
 ghost use Rattle.notation.specs.Meanings.Meaning.{unknown, create, call};
-ghost use Rattle.play.specs.Playing.{Played, Counted};
+ghost use Rattle.play.specs.Playing.{Played, PlayedWhole, Emptied, LinePlayed, lineMeaning, Counted};
 
 pub struct Session {
     pub device: Device,
@@ -32,11 +35,15 @@ pub struct Session {
     pub length: usize,
     // How many bytes of the output wait to be written.
     pub at: usize,
+    // The input is over, or the output takes no more.
     pub ended: bool,
+    pub failed: bool,
 }
 
 impl Session {
-    pub fn fresh() -> Session {
+    pub fn fresh() -> Session
+        ensures { λ r. ⌜ r .at ≡ 0 ⌝ }
+    {
         let created = Device::create(1);
         let device = created.device;
         Session {
@@ -48,18 +55,27 @@ impl Session {
             length: 0,
             at: 0,
             ended: false,
+            failed: false,
         }
     }
 
-    pub fn stopped(mut self) -> Session {
+    pub fn stopped(mut self) -> Session
+        ensures { λ r. ⌜ r .at ≡ self .at ⌝ }
+    {
         self.ended = true;
         self
     }
 
-    pub fn play_bytes(self, block: &[u8], line: &mut [u8; 1024], out: &mut [u8; 8192]) -> Session {
+    pub fn play_bytes(self, block: &[u8], line: &mut [u8; 1024], out: &mut [u8; 8192]) -> Session
+        requires { ⌜ self .at ≤ 7168 ⌝ }
+        ensures { λ r. ⌜ r .at ≤ 7168 ⌝ }
+    {
         let mut session = self;
         let mut i = 0;
         while i < block.len() {
+            if session.ended {
+                return session;
+            }
             session = session.take(block[i], line, out);
             i += 1;
         }
@@ -67,7 +83,10 @@ impl Session {
     }
 
     // One byte of the list: a newline ends the line.
-    fn take(mut self, byte: u8, line: &mut [u8; 1024], out: &mut [u8; 8192]) -> Session {
+    fn take(mut self, byte: u8, line: &mut [u8; 1024], out: &mut [u8; 8192]) -> Session
+        requires { ⌜ self .at ≤ 7168 ⌝ }
+        ensures { λ r. ⌜ r .at ≤ 7168 ⌝ }
+    {
         if byte == b'\n' {
             return self.play_line(line, out);
         }
@@ -82,14 +101,20 @@ impl Session {
     }
 
     // The last line may lack its newline.
-    pub fn play_last(self, line: &[u8; 1024], out: &mut [u8; 8192]) -> Session {
+    pub fn play_last(self, line: &[u8; 1024], out: &mut [u8; 8192]) -> Session
+        requires { ⌜ self .at ≤ 7168 ⌝ }
+        ensures { λ r. ⌜ r .at ≤ 7168 ⌝ }
+    {
         if self.length == 0 {
             return self;
         }
         self.play_line(line, out)
     }
 
-    fn play_line(mut self, line: &[u8], out: &mut [u8; 8192]) -> Session {
+    fn play_line(mut self, line: &[u8], out: &mut [u8; 8192]) -> Session
+        requires { ⌜ self .at ≤ 7168 ⌝ }
+        ensures { λ r. ⌜ LinePlayed self (lineMeaning (now (line .entry)) (self .length)) r ⌝ }
+    {
         let length = self.length;
         self.length = 0;
         self.lines = wrapping_add_u64(self.lines, 1);
@@ -100,7 +125,8 @@ impl Session {
     }
 
     fn play_text(self, text: &[u8], out: &mut [u8; 8192]) -> Session
-        ensures { λ r. ⌜ Played self (meaningOf (now (text .entry))) (now (out .entry)) r (now (out .exit)) ⌝ }
+        requires { ⌜ self .at ≤ 7168 ⌝ }
+        ensures { λ r. ⌜ PlayedWhole self (meaningOf (now (text .entry))) (now (out .entry)) r (now (out .exit)) ⌝ }
     {
         let mut payload = [0u8; 512];
         let mut bytes = [0u8; 64];
@@ -219,7 +245,7 @@ impl Session {
         count: usize,
         out: &mut [u8; 8192],
     ) -> Session
-        requires { ⌜ count ≤ length (now events) ⌝ }
+        requires { ⌜ (count ≤ length (now events)) × (count ≤ 64) ⌝ }
         ensures { λ r. ⌜ Played self (call (Doc.Call.sample (now (digital .entry)) (now (analogue .entry)) (take count (now (events .entry))))) (now (out .entry)) r (now (out .exit)) ⌝ }
     {
         let device = self.device;
@@ -273,7 +299,7 @@ impl Session {
         numbers: usize,
         out: &mut [u8; 8192],
     ) -> Session
-        requires { ⌜ (count ≤ length (now lines)) × (numbers ≤ length (now channels)) ⌝ }
+        requires { ⌜ (count ≤ length (now lines)) × (count ≤ 64) × (numbers ≤ length (now channels)) × (numbers ≤ 64) ⌝ }
         ensures { λ r. ⌜ Played self (call (Doc.Call.drive (take count (now (lines .entry))) (take numbers (now (channels .entry))))) (now (out .entry)) r (now (out .exit)) ⌝ }
     {
         let device = self.device;
@@ -303,22 +329,37 @@ impl Session {
     }
 
     // Writes the output once the longest answer line may not fit any more.
-    fn written(mut self, out: &[u8; 8192]) -> Session {
+    fn written(mut self, out: &[u8; 8192]) -> Session
+        ensures { λ r. ⌜ Emptied self r ⌝ }
+    {
         let at = self.at;
         if at < 7168 {
             return self;
         }
-        write_out(out, at);
         self.at = 0;
+        if !write_out(out, at) {
+            self.ended = true;
+            self.failed = true;
+        }
         self
     }
 
-    pub fn finish(self, out: &mut [u8; 8192]) {
+    pub fn finish(self, out: &mut [u8; 8192])
+        requires { ⌜ self .at ≤ 7168 ⌝ }
+        ensures { λ r. ⌜ now (out .exit) ≡ sets (now (out .entry)) (self .at) (totalsText (self .calls) (self .refused) (self .unknown)) ⌝ }
+    {
         let at = put_totals(out, self.at, self.calls, self.refused, self.unknown);
-        write_out(out, at);
+        if !self.failed {
+            write_out(out, at);
+        }
     }
 }
 
-fn write_out(out: &[u8], at: usize) {
-    io::write_all(1, first_bytes(out, at));
+// Answers whether the output took it all, and says so where it did not.
+fn write_out(out: &[u8], at: usize) -> bool {
+    let done = io::write_all(1, first_bytes(out, at));
+    if !done {
+        io::write_all(2, b"play: cannot write the answers\n");
+    }
+    done
 }
