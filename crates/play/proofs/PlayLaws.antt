@@ -26,7 +26,7 @@ use Rattle.notation.specs.Meanings.{Meaning}
 use Rattle.notation.specs.Meanings.Meaning.{nothing, create, call}
 use Rattle.notation.specs.Promises.{said, Fitting, Says}
 use Rattle.play.specs.declared.session.Session.{Session}
-use Rattle.play.specs.Playing.{answerLine, machinesFor, counted, isCall, isRefused, isUnknown, Played, PlayedWhole, Emptied, LinePlayed, Counted}
+use Rattle.play.specs.Playing.{answerLine, machinesFor, counted, emptied, Played, PlayedWhole, Emptied, LinePlayed, Counted}
 
 -- what a call leaves of the part that it was lent stands in front of the rest
 pub front-is : {A : Type 0} (n : ℕ) (left rest : List A) → length left ≡ n → take n (left ++ rest) ≡ left
@@ -115,19 +115,33 @@ module _ (before : Session) (out left : List ℕ) (after : Session) where
   pub whole : (m : Meaning) → before .at ≤ 7168 → Played before m out after left → PlayedWhole before m out after left
   whole m h p = record { played = p; text = p .text h; place = p .place h }
 
+-- a line begins: it is line n, and the next one has no byte yet
+abbrev begun : Session → ℕ → Session
+begun held n = record {
+  device = held .device;
+  calls = held .calls;
+  refused = held .refused;
+  unknown = held .unknown;
+  lines = n;
+  length = 0;
+  at = held .at;
+  ended = held .ended;
+  failed = held .failed;
+}
+
 -- a line that was begun, played and written out
-pub line-played : (held begun played after : Session) (m n : Meaning) (out left : List ℕ) → Played begun m out played left → Emptied played after → m ≡ n →
-    begun .device ≡ held .device → begun .calls ≡ held .calls → begun .refused ≡ held .refused → begun .unknown ≡ held .unknown → begun .lines ≡ counted true (held .lines) → begun .length ≡ 0 →
-    LinePlayed held n after
-line-played held begun played after m n out left p w e d c r u l z =
-    subst (λ (x : Meaning). LinePlayed held x after) e record {
-      machines =
-          subst (λ (x : Device). Same (machinesOf x) (machinesFor (machinesOf (held .device)) m)) (sym (w .device))
-          (subst (λ (x : Device). Same (machinesOf (played .device)) (machinesFor (machinesOf x) m)) d (p .machines));
-      calls = w .calls ∙ p .calls ∙ ap (counted (isCall m)) c;
-      refused = w .refused ∙ p .refused ∙ ap (counted (isRefused (machinesOf (begun .device)) m)) r ∙ ap (λ (x : Device). counted (isRefused (machinesOf x) m) (held .refused)) d;
-      unknown = w .unknown ∙ p .unknown ∙ ap (counted (isUnknown m)) u;
-      lines = w .lines ∙ p .lines ∙ l;
-      length = w .length ∙ p .length ∙ z;
+pub line-played : (held : Session) (n : ℕ) (played after : Session) (m meant : Meaning) (out left : List ℕ) → Played (begun held n) m out played left → Emptied played after → m ≡ meant →
+    n ≡ counted true (held .lines) → held .at ≤ 7168 → LinePlayed held meant out after left
+line-played held n played after m meant out left p w e l h =
+    let q : Played (begun held (counted true (held .lines))) m out played left = subst (λ k. Played (begun held k) m out played left) l p in
+    subst (λ (x : Meaning). LinePlayed held x out after left) e record {
+      machines = subst (λ (x : Device). Same (machinesOf x) (machinesFor (machinesOf (held .device)) m)) (sym (w .device)) (q .machines);
+      text = q .text h;
+      place = w .place ∙ ap emptied (q .place h);
+      calls = w .calls ∙ q .calls;
+      refused = w .refused ∙ q .refused;
+      unknown = w .unknown ∙ q .unknown;
+      lines = w .lines ∙ q .lines;
+      length = w .length ∙ q .length;
       room = w .room;
     }

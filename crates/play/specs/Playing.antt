@@ -91,8 +91,13 @@ pub record PlayedWhole (before : Session) (m : Meaning) (out : List ℕ) (after 
   pub text : left ≡ sets out (before .at) (answerFor (before .lines) (machinesOf (before .device)) m)
   pub place : after .at ≡ before .at + length (answerFor (before .lines) (machinesOf (before .device)) m)
 
+-- the place in the output once it was written out where the longest answer had no room any more
+abbrev pub emptied : ℕ → ℕ
+emptied at = cond (ltb at 7168) at 0
+
 -- the output has room for the longest answer again, and beside the place nothing changed that an answer can show
 pub record Emptied (before after : Session) : Type 0 where
+  pub place : after .at ≡ emptied (before .at)
   pub room : after .at ≤ 7168
   pub device : after .device ≡ before .device
   pub calls : after .calls ≡ before .calls
@@ -106,8 +111,10 @@ abbrev pub lineMeaning : List ℕ → ℕ → Meaning
 lineMeaning held n = cond (ltb (length held) n) (unknown Ex.Shorter) (meaningOf (take n held))
 
 -- a line was played and counted, the next one starts, and its answer has room
-pub record LinePlayed (before : Session) (m : Meaning) (after : Session) : Type 0 where
+pub record LinePlayed (before : Session) (m : Meaning) (out : List ℕ) (after : Session) (left : List ℕ) : Type 0 where
   pub machines : Same (machinesOf (after .device)) (machinesFor (machinesOf (before .device)) m)
+  pub text : left ≡ sets out (before .at) (answerFor (counted true (before .lines)) (machinesOf (before .device)) m)
+  pub place : after .at ≡ emptied (before .at + length (answerFor (counted true (before .lines)) (machinesOf (before .device)) m))
   pub calls : after .calls ≡ counted (isCall m) (before .calls)
   pub refused : after .refused ≡ counted (isRefused (machinesOf (before .device)) m) (before .refused)
   pub unknown : after .unknown ≡ counted (isUnknown m) (before .unknown)

@@ -35,7 +35,7 @@ pub struct Session {
     pub length: usize,
     // How many bytes of the output wait to be written.
     pub at: usize,
-    // The input is over, or the output takes no more.
+    // The input is over, or the output takes no more; failed is the latter alone.
     pub ended: bool,
     pub failed: bool,
 }
@@ -113,7 +113,7 @@ impl Session {
 
     fn play_line(mut self, line: &[u8], out: &mut [u8; 8192]) -> Session
         requires { ⌜ self .at ≤ 7168 ⌝ }
-        ensures { λ r. ⌜ LinePlayed self (lineMeaning (now (line .entry)) (self .length)) r ⌝ }
+        ensures { λ r. ⌜ LinePlayed self (lineMeaning (now (line .entry)) (self .length)) (now (out .entry)) r (now (out .exit)) ⌝ }
     {
         let length = self.length;
         self.length = 0;
@@ -330,6 +330,7 @@ impl Session {
 
     // Writes the output once the longest answer line may not fit any more.
     fn written(mut self, out: &[u8; 8192]) -> Session
+        requires { ⌜ self .at ≤ 8192 ⌝ }
         ensures { λ r. ⌜ Emptied self r ⌝ }
     {
         let at = self.at;
@@ -355,8 +356,10 @@ impl Session {
     }
 }
 
-// Answers whether the output took it all, and says so where it did not.
-fn write_out(out: &[u8], at: usize) -> bool {
+// Answers whether the output took it all; where it did not, a person is told.
+fn write_out(out: &[u8], at: usize) -> bool
+    requires { ⌜ at ≤ length (now out) ⌝ }
+{
     let done = io::write_all(1, first_bytes(out, at));
     if !done {
         io::write_all(2, b"play: cannot write the answers\n");
