@@ -104,9 +104,10 @@ pub fn sample_all(channels: [AnalogueInput; 16], xs: &[i16], on: bool) -> Sample
 {
     let mut next = channels;
     let mut events: u32 = 0;
-    let mut weight: u32 = 1;
-    let mut i: usize = 0;
-    while i < 16 {
+    let mut i: usize = 16;
+    // Downward and with no running weight: fewer instructions for each channel that is still.
+    while 0 < i {
+        i -= 1;
         let x = xs[i];
         let seen = next[i];
         if !is_still(seen, x) {
@@ -114,10 +115,8 @@ pub fn sample_all(channels: [AnalogueInput; 16], xs: &[i16], on: bool) -> Sample
             let result = sampled(old, x, on);
             let channel = result.channel;
             next[i] = channel;
-            events += weigh(result.event, weight);
+            events += weigh(result.event, 1u32 << i);
         }
-        weight *= 2;
-        i += 1;
     }
     SampledInputs {
         events: events as u16,

@@ -1,10 +1,9 @@
--- `inputs::sample_all` meets its contract. The loop's invariant: the channels below i are sampled, and their events gathered.
+-- `inputs::sample_all` meets its contract. The loop's invariant: the channels from i on are sampled, and the events of those below i are missing.
 -- Assumes nothing.
 use Prim.Native.Nat.{ℕ, _-_, _≤_, _<_}
 use mathlib.Core.Path.{_≡_, sym, ap, _∙_}
 use mathlib.Core.Bool.{Bool, true, false, _&&_, and-false}
 use mathlib.Core.List.{List}
-use mathlib.Core.Logic.{⊎-elim}
 use native.Mathlib.Omega.{arith}
 use borrow.Author.Needs.{needs}
 use borrow.Author.Tests.{not-false}
@@ -17,23 +16,26 @@ use mir.Facts.{toZ-ofZ}
 use Rattle.profile.specs.declared.AnalogueInput.{AnalogueInput}
 use Rattle.profile.specs.Analogue.{sampleChannel}
 use Rattle.channels.specs.Promises.{blankInput, inputOf, met, still, Sampled}
-use Rattle.channels.proofs.Mapped.{Mapped, mapped-none, mapped-more, mapped-stay}
-use Rattle.channels.proofs.Gathered.{Gathered, gathered-none, gathered-more, gathered-skip, weight-room, number-room, number-fits, gathered-all}
+use Rattle.channels.proofs.Mapped.{Backward, backward-none, backward-more, backward-stay}
+use Rattle.channels.proofs.Gathered.{Missing, missing-all, missing-less, missing-skip, missing-small, missing-none, weight-is, bit-room}
 use Rattle.channels.proofs.MeetsLaws.{still-meets, still-sampled}
 use Rattle.channels.proofs.inputs.sample_all.Statement.{statement}
 use Rattle.channels.proofs.inputs.sample_all.Tie as tie
 
 abbrev Inv-loop : tie.InvT-loop
-Inv-loop xs on next₀ events₀ weight₀ i₀ next events weight i =
+Inv-loop xs on next₀ events₀ i₀ next events i =
     (i ≤ 16) × (length next₀ ≡ 16)
-    × Mapped (λ k. sampleChannel (met on xs next₀ k) (getD xs k (pos 0))) blankInput next₀ next i
-    × Gathered (met on xs next₀) i events weight
+    × Backward (λ k. sampleChannel (met on xs next₀ k) (getD xs k (pos 0))) blankInput 16 next₀ next i
+    × Missing (met on xs next₀) i events
 
 abbrev μ-loop : tie.MeasureT-loop
-μ-loop xs on next₀ events₀ weight₀ i₀ next events weight i = 16 - i
+μ-loop xs on next₀ events₀ i₀ next events i = i
 
 loop-holds : tie.Need-loop-holds Inv-loop μ-loop
-loop-holds c = (omega arith, search needs, mapped-none _ _ _, gathered-none _)
+loop-holds c = (omega arith, search needs, backward-none _ _ _ _, missing-all _)
+
+sub-i : tie.Need-sub-i Inv-loop μ-loop
+sub-i c = omega arith
 
 mul-x : tie.Need-mul-x Inv-loop μ-loop
 mul-x c = omega arith
@@ -65,24 +67,24 @@ mul-next c = omega arith
 array-set-from-next : tie.Need-array-set-from-next Inv-loop μ-loop
 array-set-from-next c = omega arith
 
+cast-weigh : tie.Need-cast-weigh Inv-loop μ-loop
+cast-weigh c = omega arith
+
+shl-weigh : tie.Need-shl-weigh Inv-loop μ-loop
+shl-weigh c = omega arith
+
 weigh-requires : tie.Need-weigh-requires Inv-loop μ-loop
 weigh-requires c κs = search needs
+
+-- the place of the channel is one of sixteen
+place : (c : tie.In-loop Inv-loop μ-loop) → c .before .loop .i - 1 < 16
+place c = omega (arith, c .before .loop .inv .0, c .loop-test .taken)
 
 add-events : tie.Need-add-events Inv-loop μ-loop
 add-events c =
     let test = c .before .before .before .before .before .before .before .before in
-    omega (arith, c .weigh .ensures, number-room (test .before .loop .inv .3) (c .before .before .sampled .result .event) (test .loop-test .taken))
-
-mul-weight : tie.Need-mul-weight Inv-loop μ-loop
-mul-weight c =
-    let test = c .before .before .before .before in
-    omega (arith, weight-room (test .before .loop .inv .3) (test .loop-test .taken))
-
-add-i : tie.Need-add-i Inv-loop μ-loop
-add-i c = omega arith
-
-loop-less : tie.Need-loop-less Inv-loop μ-loop
-loop-less c = omega arith
+    let l = test .before .loop in
+    omega (arith, c .weigh .ensures, bit-room (c .before .before .sampled .result .event) (l .i - 1) _ (l .events) (place test) (weight-is (l .i - 1) (place test)) (missing-small (l .inv .3)))
 
 -- one channel's event and what it becomes, in the terms of the promise
 module _ (on : Bool) (xs : List ℤ) (old : List AnalogueInput) (i : ℕ) where
@@ -103,44 +105,58 @@ module _ (on : Bool) (xs : List ℤ) (old : List AnalogueInput) (i : ℕ) where
   channel-stays f e =
       ap (λ (b : Bool). sampleChannel b (getD xs i (pos 0)) (inputOf old i)) (no-event f e) ∙ still-sampled (inputOf old i) (getD xs i (pos 0)) f e
 
+loop-less : tie.Need-loop-less Inv-loop μ-loop
+loop-less c = omega arith
+
 loop-again : tie.Need-loop-again Inv-loop μ-loop
 loop-again c =
-    let x = c .before .before .before in
-    let l = x .before .before in
+    let s = c .before .before in
+    let x = s .before .before .before .before .before in
+    let test = x .before in
+    let l = test .before in
     let inv = l .loop .inv in
     let a = l .before .args in
-    let i = l .loop .i in
+    let i = l .loop .i - 1 in
     let v = getD (a .xs .now) i (pos 0) in
     let f : SFits w16 v = record { sfits = x .x .given } in
     let e : toZ w16 (ofZ w16 v) ≡ v = toZ-ofZ f in
-    let same : inputOf (l .loop .next) i ≡ inputOf (a .channels) i = inv .2 .high i (omega arith) in (
+    let same : inputOf (l .loop .next) i ≡ inputOf (a .channels) i = inv .2 .low i (omega (arith, test .loop-test .taken)) in
+    let g : Sampled (a .on) v (inputOf (a .channels) i) (s .sampled .result .event) (s .sampled .result .channel) = rw (e, same) at (s .sampled .ensures) in (
       omega arith,
       inv .1,
-      ⊎-elim
-          (λ s.
-          let g : Sampled (a .on) v (inputOf (a .channels) i) (s .2 .result .event) (s .2 .result .channel) = rw (e, same) at (s .2 .ensures) in
-          rw (s .5) (mapped-more _ _ _ _ _ _ (inv .2) (omega (arith, inv .1, inv .2 .len)) (channel-is (a .on) (a .xs .now) (a .channels) i _ _ g)))
-          (λ s.
-          let q : still v (inputOf (a .channels) i) ≡ true = rw (e, same) at (sym (c .before .is-still .ensures) ∙ not-false _ (s .0 .left)) in
-          rw (s .1) (mapped-stay _ _ _ _ _ (inv .2) (channel-stays (a .on) (a .xs .now) (a .channels) i (f .sfits) q)))
-          (c .if1 .came),
-      ⊎-elim
-          (λ s.
-          let g : Sampled (a .on) v (inputOf (a .channels) i) (s .2 .result .event) (s .2 .result .channel) = rw (e, same) at (s .2 .ensures) in
-          rw (s .6, s .4 .ensures) (gathered-more (inv .3) _ (event-is (a .on) (a .xs .now) (a .channels) i _ _ g)))
-          (λ s.
-          let q : still v (inputOf (a .channels) i) ≡ true = rw (e, same) at (sym (c .before .is-still .ensures) ∙ not-false _ (s .0 .left)) in
-          rw (s .2) (gathered-skip (inv .3) (no-event (a .on) (a .xs .now) (a .channels) i (f .sfits) q)))
-          (c .if1 .came),
+      backward-more _ _ _ _ _ _ _ (inv .2) (test .loop-test .taken) (omega (arith, place test, inv .1, inv .2 .len)) (channel-is (a .on) (a .xs .now) (a .channels) i _ _ g),
+      rw (c .weigh .ensures) (missing-less (inv .3) (test .loop-test .taken) _ _ (event-is (a .on) (a .xs .now) (a .channels) i _ _ g) (weight-is i (place test))),
     )
 
-cast-t28 : tie.Need-cast-t28 Inv-loop μ-loop
-cast-t28 c = record { fits = number-fits (c .before .loop .inv .3) (c .before .loop .inv .0) }
+loop-less-2 : tie.Need-loop-less-2 Inv-loop μ-loop
+loop-less-2 c = omega arith
+
+loop-again-2 : tie.Need-loop-again-2 Inv-loop μ-loop
+loop-again-2 c =
+    let x = c .before .before .before in
+    let test = x .before in
+    let l = test .before in
+    let inv = l .loop .inv in
+    let a = l .before .args in
+    let i = l .loop .i - 1 in
+    let v = getD (a .xs .now) i (pos 0) in
+    let f : SFits w16 v = record { sfits = x .x .given } in
+    let e : toZ w16 (ofZ w16 v) ≡ v = toZ-ofZ f in
+    let same : inputOf (l .loop .next) i ≡ inputOf (a .channels) i = inv .2 .low i (omega (arith, test .loop-test .taken)) in
+    let q : still v (inputOf (a .channels) i) ≡ true = rw (e, same) at (sym (c .before .is-still .ensures) ∙ not-false _ (c .if1 .left)) in (
+      omega arith,
+      inv .1,
+      backward-stay _ _ _ _ _ _ (inv .2) (test .loop-test .taken) (channel-stays (a .on) (a .xs .now) (a .channels) i (f .sfits) q),
+      missing-skip (inv .3) (test .loop-test .taken) (no-event (a .on) (a .xs .now) (a .channels) i (f .sfits) q),
+    )
+
+cast-t29 : tie.Need-cast-t29 Inv-loop μ-loop
+cast-t29 c = record { fits = missing-small (c .before .loop .inv .3) }
 
 returns : tie.Need-returns Inv-loop μ-loop
 returns c =
     let inv = c .before .loop .inv in
-    record { events-are = gathered-all (inv .3) 16 (inv .0) (c .loop-test .left); channels = λ n h. inv .2 .low n (omega arith) }
+    record { events-are = missing-none (inv .3) (c .loop-test .left); channels = λ n h. inv .2 .high n (omega (arith, c .loop-test .left)) h }
 
 pub sample-all-spec : {M : Type 1} → statement M
 sample-all-spec =
@@ -149,6 +165,7 @@ sample-all-spec =
     Inv-loop
     μ-loop
     loop-holds
+    sub-i
     mul-x
     shared-slice-copy-out-x
     mul-seen
@@ -159,11 +176,13 @@ sample-all-spec =
     sampled-requires
     mul-next
     array-set-from-next
+    cast-weigh
+    shl-weigh
     weigh-requires
     add-events
-    mul-weight
-    add-i
     loop-less
     loop-again
-    cast-t28
+    loop-less-2
+    loop-again-2
+    cast-t29
     returns)
