@@ -20,6 +20,7 @@ use Rattle.notation.specs.declared.Expected.the-variants as Ex
 use Rattle.notation.specs.Ascii.{ascii}
 use Rattle.notation.specs.Texts.{glyphOf, digitsOf, hexText, longHexText, placesOf, decimalText, bitsText, eachText, bytesText, numbersText, placeText, placesFrom, placesText}
 use Rattle.notation.specs.Answers.{newline, inParentheses, numberText, abortText, refusalText, endText, attributeText, linesText, entryText, plainLine, writeLine, fourBytes, readLine, sampleLine, driveLine, expectedText, unknownLine, totalsText}
+use Rattle.notation.proofs.ReadBack.{digits-length}
 
 -- one of two texts
 short-cond : (m : ℕ) (t : Bool) (a b : List ℕ) → length a ≤ m → length b ≤ m → length (cond t a b) ≤ m
@@ -31,10 +32,6 @@ short-then : (m n : ℕ) (a b : List ℕ) → length a ≤ m → length b ≤ n 
 short-then m n a b p q = omega (arith, p, q, length-append a b)
 
 -- ---- numbers
-
-digits-length : (b k n : ℕ) → length (digitsOf b k n) ≡ k
-digits-length b zero n = refl
-digits-length b (suc k) n = length-append (digitsOf b k (n / b)) (glyphOf (n % b) ∷ []) ∙ omega (arith, digits-length b k (n / b))
 
 -- a number below a power of ten has no more digits than it
 places-small : (f k n : ℕ) → n < 10 ^ suc k → placesOf f n ≤ suc k

@@ -96,7 +96,7 @@ number-some : (b : ℕ) (word : List ℕ) → 1 ≤ length word → isNumber b w
 number-some b [] h = absurd (omega (arith, h))
 number-some b (x ∷ word) h = refl
 
-digits-length : (b k n : ℕ) → length (digitsOf b k n) ≡ k
+pub digits-length : (b k n : ℕ) → length (digitsOf b k n) ≡ k
 digits-length b zero n = refl
 digits-length b (suc k) n = length-append (digitsOf b k (n / b)) (glyphOf (n % b) ∷ []) ∙ omega (arith, digits-length b k (n / b))
 

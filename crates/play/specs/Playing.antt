@@ -68,6 +68,18 @@ abbrev pub counted : Bool → ℕ → ℕ
 counted false n = n
 counted true n = (n + 1) % 2 ^ 64
 
+-- before the first line: "A list whose first call is no create plays on `create 1`"
+pub record Started (s : Session) : Type 0 where
+  pub machines : Same (machinesOf (s .device)) (freshMachines 1)
+  pub calls : s .calls ≡ 0
+  pub refused : s .refused ≡ 0
+  pub unknown : s .unknown ≡ 0
+  pub lines : s .lines ≡ 0
+  pub length : s .length ≡ 0
+  pub at : s .at ≡ 0
+  pub ended : s .ended ≡ false
+  pub failed : s .failed ≡ false
+
 -- the promise of playing a line
 pub record Played (before : Session) (m : Meaning) (out : List ℕ) (after : Session) (left : List ℕ) : Type 0 where
   pub machines : Same (machinesOf (after .device)) (machinesFor (machinesOf (before .device)) m)
