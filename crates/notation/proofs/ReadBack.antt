@@ -13,7 +13,7 @@ use mir.Syntax.{w16}
 use mir.Val.{SFits, ofZ, toZ}
 use mir.Facts.{toZ-ofZ, fits-ofZ}
 use borrow.Author.Tests.{lt-ltb, le-ltb, ltb-true, ltb-false, ne-eqb}
-use Rattle.notation.specs.Words.{run, inFront, piecesOf, withoutEmpty, wordsOf, isWord}
+use Rattle.notation.specs.Words.{run, withByte, piecesOf, withoutEmpty, wordsOf, isWord}
 use Rattle.notation.specs.Numbers.{digitOf, allDigits, spelledOn, spelled, capped, isNumber, numberOf, shortNumber, minus, plus, signedOf}
 use Rattle.notation.specs.Items.{Item, byteItem, numberItem, slash, Found, items, missing, withItem, itemsOf}
 use Rattle.notation.specs.Texts.{glyphOf, digitsOf, hexText, longHexText, placesOf, decimalText, bitsText, eachText, bytesText, numbersText}
@@ -229,9 +229,9 @@ pieces-more [] line ps s e = e
 pieces-more (x ∷ word) line ps s e = at (eqb x 32) s (λ r. pieces-more word line ps r e)
   where
     at : (t : Bool) → cond t 0 (suc (run false 32 word)) ≡ suc (length word) → (run false 32 word ≡ length word → piecesOf (word ++ line) ≡ word ∷ ps) →
-        cond t ([] ∷ piecesOf (word ++ line)) (inFront x (piecesOf (word ++ line))) ≡ (x ∷ word) ∷ ps
+        cond t ([] ∷ piecesOf (word ++ line)) (withByte x (piecesOf (word ++ line))) ≡ (x ∷ word) ∷ ps
     at true s r = absurd (omega arith)
-    at false s r = ap (inFront x) (r (omega arith))
+    at false s r = ap (withByte x) (r (omega arith))
 
 word-kept : (word : List ℕ) (ps : List (List ℕ)) → 1 ≤ length word → withoutEmpty (word ∷ ps) ≡ word ∷ withoutEmpty ps
 word-kept [] ps h = absurd (omega (arith, h))

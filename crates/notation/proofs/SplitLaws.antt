@@ -9,7 +9,7 @@ use lib.Dec.{eqb}
 use lib.ListN.{length, take, drop}
 use lib.Seq.{drop-drop, drop-nil, length-take-le}
 use borrow.Author.Tests.{eqb-true, eqb-false, eq-eqb, ne-eqb}
-use Rattle.notation.specs.Words.{run, spaces, wordEnd, firstWord, afterWord, isBlank, inFront, piecesOf, withoutEmpty, wordsOf, firstOf, othersOf, isWord}
+use Rattle.notation.specs.Words.{run, spaces, wordEnd, firstWord, afterWord, isBlank, withByte, piecesOf, withoutEmpty, wordsOf, firstOf, othersOf, isWord}
 use Rattle.notation.proofs.RunLaws.{run-within}
 
 -- the pieces after a space
@@ -22,9 +22,9 @@ pieces-first : (l : List ℕ) → piecesOf l ≡ take (run false 32 l) l ∷ aft
 pieces-first [] = refl
 pieces-first (x ∷ xs) = at (eqb x 32) (pieces-first xs)
   where
-    at : (t : Bool) → piecesOf xs ≡ take (run false 32 xs) xs ∷ afterSpace (drop (run false 32 xs) xs) → cond t ([] ∷ piecesOf xs) (inFront x (piecesOf xs)) ≡ take (cond t 0 (suc (run false 32 xs))) (x ∷ xs) ∷ afterSpace (drop (cond t 0 (suc (run false 32 xs))) (x ∷ xs))
+    at : (t : Bool) → piecesOf xs ≡ take (run false 32 xs) xs ∷ afterSpace (drop (run false 32 xs) xs) → cond t ([] ∷ piecesOf xs) (withByte x (piecesOf xs)) ≡ take (cond t 0 (suc (run false 32 xs))) (x ∷ xs) ∷ afterSpace (drop (cond t 0 (suc (run false 32 xs))) (x ∷ xs))
     at true r = refl
-    at false r = ap (inFront x) r
+    at false r = ap (withByte x) r
 
 -- spaces in front make no words
 words-skip : (l : List ℕ) → withoutEmpty (piecesOf l) ≡ withoutEmpty (piecesOf (drop (run true 32 l) l))

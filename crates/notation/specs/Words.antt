@@ -29,14 +29,14 @@ unfoldable pub afterWord : List ℕ → List ℕ
 afterWord line = drop (wordEnd line) line
 
 -- a byte in front of the first piece
-abbrev pub inFront : ℕ → List (List ℕ) → List (List ℕ)
-inFront x [] = (x ∷ []) ∷ []
-inFront x (p ∷ ps) = (x ∷ p) ∷ ps
+abbrev pub withByte : ℕ → List (List ℕ) → List (List ℕ)
+withByte x [] = (x ∷ []) ∷ []
+withByte x (p ∷ ps) = (x ∷ p) ∷ ps
 
 -- the pieces of a line between its spaces, empty ones too
 abbrev pub piecesOf : List ℕ → List (List ℕ)
 piecesOf [] = [] ∷ []
-piecesOf (x ∷ xs) = cond (eqb x 32) ([] ∷ piecesOf xs) (inFront x (piecesOf xs))
+piecesOf (x ∷ xs) = cond (eqb x 32) ([] ∷ piecesOf xs) (withByte x (piecesOf xs))
 
 abbrev pub withoutEmpty : List (List ℕ) → List (List ℕ)
 withoutEmpty [] = []
@@ -56,10 +56,6 @@ firstOf (w ∷ ws) = w
 abbrev pub othersOf : List (List ℕ) → List (List ℕ)
 othersOf [] = []
 othersOf (w ∷ ws) = ws
-
-abbrev pub isNone : List (List ℕ) → Bool
-isNone [] = true
-isNone (w ∷ ws) = false
 
 -- two words are the same
 abbrev pub isWord : List ℕ → List ℕ → Bool

@@ -1,15 +1,16 @@
 -- A call that was counted and answered was played.
 -- Assumes nothing.
 use mathlib.Core.Path.{_≡_, refl, sym, ap, subst, _∙_}
-use mathlib.Core.Bool.{Bool, true, not}
+use mathlib.Core.Bool.{Bool, true, false, not, cond}
 use mathlib.Core.List.{List, [], _∷_, _++_}
-use Prim.Native.Nat.{ℕ, _+_, _≤_}
+use Prim.Native.Nat.{ℕ, _+_, _≤_, _<_}
 use native.Mathlib.Nat.{add-zero}
 use native.Mathlib.Omega.{arith}
-use lib.ListN.{length, take}
+use lib.ListN.{length, take, set}
 use lib.Seq.{sets}
 use lib.IntN.{ℤ}
-use lib.Dec.{eqb}
+use lib.Dec.{eqb, ltb}
+use borrow.Author.Tests.{eq-eqb, ne-eqb, lt-ltb, le-ltb}
 use Rattle.profile.specs.Calls.{Call, Reply}
 use Rattle.profile.specs.Refusals.{createRefusal, createdNumber}
 use Rattle.profile.specs.Replies.{freshMachines, reply}
@@ -26,7 +27,7 @@ use Rattle.notation.specs.Meanings.{Meaning}
 use Rattle.notation.specs.Meanings.Meaning.{nothing, create, call}
 use Rattle.notation.specs.Promises.{said, Fitting, Says}
 use Rattle.play.specs.declared.session.Session.{Session}
-use Rattle.play.specs.Playing.{answerLine, machinesFor, counted, emptied, Played, PlayedWhole, Emptied, LinePlayed, Counted}
+use Rattle.play.specs.Playing.{answerLine, machinesFor, counted, emptied, Played, PlayedWhole, Emptied, LinePlayed, heldMore, longer, Took, PlayedLast, Counted}
 
 -- what a call leaves of the part that it was lent stands in front of the rest
 pub front-is : {A : Type 0} (n : ℕ) (left rest : List A) → length left ≡ n → take n (left ++ rest) ≡ left
@@ -145,3 +146,34 @@ line-played held n played after m meant out left p w e l h =
       length = w .length ∙ q .length;
       room = w .room;
     }
+
+-- what the code's two tests leave of a line
+module _ (held : List ℕ) (n byte : ℕ) where
+  pub more-held : n < 1024 → set held n byte ≡ heldMore held n byte
+  more-held h = ap (λ (b : Bool). cond b (set held n byte) held) (sym (lt-ltb n 1024 h))
+
+  pub none-held : 1024 ≤ n → held ≡ heldMore held n byte
+  none-held h = ap (λ (b : Bool). cond b (set held n byte) held) (sym (le-ltb n 1024 h))
+
+  pub one-longer : n ≤ 1024 → n + 1 ≡ longer n
+  one-longer h = ap (λ (b : Bool). cond b (n + 1) n) (sym (lt-ltb n 1025 (omega arith)))
+
+  pub as-long : 1024 < n → n ≡ longer n
+  as-long h = ap (λ (b : Bool). cond b (n + 1) n) (sym (le-ltb n 1025 (omega arith)))
+
+-- a byte that ends the line, and one that is held
+module _ (before : Session) (byte : ℕ) (held out : List ℕ) (after : Session) (kept left : List ℕ) where
+  pub took-line : byte ≡ 10 → Took true before byte held out after kept left → Took (eqb byte 10) before byte held out after kept left
+  took-line e t = subst (λ (b : Bool). Took b before byte held out after kept left) (sym (eq-eqb byte 10 e)) t
+
+  pub took-byte : (byte ≡ 10 → ⊥) → Took false before byte held out after kept left → Took (eqb byte 10) before byte held out after kept left
+  took-byte n t = subst (λ (b : Bool). Took b before byte held out after kept left) (sym (ne-eqb byte 10 n)) t
+
+  -- either way an answer has room
+  pub took-room : (b : Bool) → before .at ≤ 7168 → Took b before byte held out after kept left → after .at ≤ 7168
+  took-room true h t = t .0 .room
+  took-room false h t = subst (λ (s : Session). s .at ≤ 7168) (sym (t .0)) h
+
+  pub last-room : (b : Bool) → before .at ≤ 7168 → PlayedLast b before held out after left → after .at ≤ 7168
+  last-room true h t = subst (λ (s : Session). s .at ≤ 7168) (sym (t .0)) h
+  last-room false h t = t .room
