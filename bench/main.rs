@@ -31,7 +31,7 @@ const NAMES: [&str; 3] = ["paper", "fast", "library"];
 const ROUNDS: usize = 15;
 const REPEATS: usize = 20;
 
-/// Callgrind counts what happens in here, the copies of the device included and the list's loop not.
+/// Callgrind counts what happens in here, the harness's own part included and the list's loop not.
 #[inline(never)]
 fn one_call<M: Machine>(device: &mut M, call: &mut Call) -> Answer {
     call.play(device)
@@ -148,7 +148,7 @@ fn main() {
         return play_alone(name, row);
     }
     println!(
-        "On {}; paper.rs and fast.rs by rustc -O, the copies of the library's device included.",
+        "On {}; paper.rs and fast.rs by rustc -O. Only create hands a device back by value.",
         machine()
     );
     let heads = ["paper", "fast", "library", "/paper", "/fast"];

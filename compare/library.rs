@@ -1,55 +1,16 @@
-//! The static library io401, called as C calls it: the device by value, slices as pointer and length.
+//! The static library io401, called as C calls it: the arrays of a device by pointer, slices as pointer and length.
 
 use crate::calls::{Answer, Cause, Machine};
 
 #[derive(Clone, Copy)]
 #[repr(C)]
-struct Node {
-    number: u8,
-    state: u8,
-    internal: bool,
-    lost: bool,
-    behaviour: u8,
-    digital: bool,
-    analogue: bool,
-}
-
-#[derive(Clone, Copy)]
-#[repr(C)]
-struct Input {
-    upper: i32,
-    lower: i32,
-    delta: u32,
-    negative: u32,
-    positive: u32,
-    last: i16,
-    reference: i16,
-    selection: u8,
-    source: bool,
-}
-
-#[derive(Clone, Copy)]
-#[repr(C)]
-struct Output {
-    mode: bool,
-    error: i16,
-    kept: i16,
-    driven: i16,
-}
-
-#[derive(Clone, Copy)]
-#[repr(C)]
 pub struct Device {
-    node: Node,
-    lines: [u64; 28],
-    inputs: [Input; 16],
-    outputs: [Output; 8],
-}
-
-#[repr(C)]
-struct Plain {
-    number: u32,
-    device: Device,
+    octets: [u8; 21],
+    flags: [bool; 12],
+    words: [u64; 28],
+    limits: [i32; 32],
+    deltas: [u32; 48],
+    values: [i16; 56],
 }
 
 #[repr(C)]
@@ -57,101 +18,89 @@ struct Read {
     number: u32,
     value: u32,
     size: usize,
-    device: Device,
 }
 
 #[repr(C)]
 struct Sample {
     number: u32,
     events: u16,
-    device: Device,
 }
+
+type Octets = *mut [u8; 21];
+type Flags = *mut [bool; 12];
+type Words = *mut [u64; 28];
+type Limits = *mut [i32; 32];
+type Deltas = *mut [u32; 48];
+type Values = *mut [i16; 56];
 
 unsafe extern "C" {
-    safe fn io401_create(number: u8) -> Plain;
-    safe fn io401_read(device: Device, index: u16, sub: u8) -> Read;
-    fn io401_write(device: Device, index: u16, sub: u8, bytes: *const u8, length: usize) -> Plain;
-    fn io401_sample(
-        device: Device,
-        digital: *const u8,
-        digital_length: usize,
-        analogue: *const i16,
-        analogue_length: usize,
-        events: *mut u8,
-        events_length: usize,
+    fn io401_create_arrays(o: Octets, f: Flags, w: Words, l: Limits, d: Deltas, v: Values, number: u8) -> u32;
+    fn io401_read_arrays(o: Octets, f: Flags, w: Words, l: Limits, d: Deltas, v: Values, index: u16, sub: u8) -> Read;
+    fn io401_write_arrays(
+        o: Octets, f: Flags, w: Words, l: Limits, d: Deltas, v: Values, index: u16, sub: u8, bytes: *const u8, length: usize,
+    ) -> u32;
+    fn io401_sample_arrays(
+        o: Octets, f: Flags, w: Words, l: Limits, d: Deltas, v: Values,
+        digital: *const u8, digital_length: usize, analogue: *const i16, analogue_length: usize, events: *mut u8, events_length: usize,
     ) -> Sample;
-    safe fn io401_command(device: Device, code: u8, node: u8) -> Plain;
-    safe fn io401_raise(device: Device, loss: bool) -> Plain;
-    safe fn io401_clear(device: Device, loss: bool) -> Plain;
-    fn io401_drive(
-        device: Device,
-        lines: *mut u8,
-        lines_length: usize,
-        channels: *mut i16,
-        channels_length: usize,
-    ) -> Plain;
+    fn io401_command_arrays(o: Octets, f: Flags, w: Words, l: Limits, d: Deltas, v: Values, code: u8, node: u8) -> u32;
+    fn io401_raise_arrays(o: Octets, f: Flags, w: Words, v: Values, loss: bool) -> u32;
+    fn io401_clear_arrays(o: Octets, f: Flags, w: Words, v: Values, loss: bool) -> u32;
+    fn io401_drive_arrays(w: Words, v: Values, lines: *mut u8, lines_length: usize, channels: *mut i16, channels_length: usize) -> u32;
 }
 
-impl Device {
-    fn keep(&mut self, done: Plain) -> Answer {
-        *self = done.device;
-        Answer::refused(done.number)
-    }
+// The calls that take all six. Every pointer is that of a live array or slice, and no two overlap; so below.
+macro_rules! call {
+    ($name:ident, $device:expr $(, $more:expr)*) => {{
+        let d = $device;
+        unsafe { $name(&mut d.octets, &mut d.flags, &mut d.words, &mut d.limits, &mut d.deltas, &mut d.values $(, $more)*) }
+    }};
 }
 
 impl Machine for Device {
     fn create(number: u8) -> (u32, Device) {
-        let made = io401_create(number);
-        (made.number, made.device)
+        let mut d = Device { octets: [0; 21], flags: [false; 12], words: [0; 28], limits: [0; 32], deltas: [0; 48], values: [0; 56] };
+        let refused = call!(io401_create_arrays, &mut d, number);
+        (refused, d)
     }
 
     fn read(&mut self, index: u16, sub: u8) -> Answer {
-        let done = io401_read(*self, index, sub);
-        *self = done.device;
+        let done = call!(io401_read_arrays, self, index, sub);
         Answer { number: done.number, value: done.value, size: done.size, events: 0 }
     }
 
     fn write(&mut self, index: u16, sub: u8, data: &[u8]) -> Answer {
-        // The pointer and the length are those of a live slice; so too below.
-        let done = unsafe { io401_write(*self, index, sub, data.as_ptr(), data.len()) };
-        self.keep(done)
+        Answer::refused(call!(io401_write_arrays, self, index, sub, data.as_ptr(), data.len()))
     }
 
     fn sample(&mut self, digital: &[u8], analogue: &[i16], events: &mut [u8]) -> Answer {
-        let done = unsafe {
-            io401_sample(
-                *self,
-                digital.as_ptr(),
-                digital.len(),
-                analogue.as_ptr(),
-                analogue.len(),
-                events.as_mut_ptr(),
-                events.len(),
-            )
-        };
-        *self = done.device;
+        let done = call!(
+            io401_sample_arrays, self,
+            digital.as_ptr(), digital.len(), analogue.as_ptr(), analogue.len(), events.as_mut_ptr(), events.len()
+        );
         Answer { events: done.events, ..Answer::refused(done.number) }
     }
 
     fn command(&mut self, code: u8, node: u8) -> Answer {
-        let done = io401_command(*self, code, node);
-        self.keep(done)
+        Answer::refused(call!(io401_command_arrays, self, code, node))
     }
 
     fn raise(&mut self, cause: Cause) -> Answer {
-        let done = io401_raise(*self, cause == Cause::CommunicationLoss);
-        self.keep(done)
+        let loss = cause == Cause::CommunicationLoss;
+        let (o, f, w, v) = (&mut self.octets, &mut self.flags, &mut self.words, &mut self.values);
+        Answer::refused(unsafe { io401_raise_arrays(o, f, w, v, loss) })
     }
 
     fn clear(&mut self, cause: Cause) -> Answer {
-        let done = io401_clear(*self, cause == Cause::CommunicationLoss);
-        self.keep(done)
+        let loss = cause == Cause::CommunicationLoss;
+        let (o, f, w, v) = (&mut self.octets, &mut self.flags, &mut self.words, &mut self.values);
+        Answer::refused(unsafe { io401_clear_arrays(o, f, w, v, loss) })
     }
 
     fn drive(&mut self, lines: &mut [u8], channels: &mut [i16]) -> Answer {
-        let done = unsafe {
-            io401_drive(*self, lines.as_mut_ptr(), lines.len(), channels.as_mut_ptr(), channels.len())
-        };
-        self.keep(done)
+        let (l, c) = (lines.as_mut_ptr(), channels.as_mut_ptr());
+        Answer::refused(unsafe {
+            io401_drive_arrays(&mut self.words, &mut self.values, l, lines.len(), c, channels.len())
+        })
     }
 }

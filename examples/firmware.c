@@ -5,6 +5,8 @@
 #include <io401.h>
 #include <stdio.h>
 
+#define NODE 5
+
 typedef struct setting {
     uint16_t index;
     uint8_t sub;
@@ -12,7 +14,7 @@ typedef struct setting {
     size_t size;
 } setting;
 
-/* Written while the node is pre-operational. The last one is refused: inputs are only read. */
+/* Written while the node is pre-operational. */
 static const setting SET_UP[] = {
     {0x6003, 1, 0x01, 1},   /* line 1 is filtered: three samples that agree */
     {0x6006, 1, 0x03, 1},   /* of lines 1 to 8 only 1 and 2 report any change .. */
@@ -27,7 +29,7 @@ static const setting SET_UP[] = {
     {0x6411, 1, 1000, 2},   /* analogue output 1 .. */
     {0x6444, 1, 0xFFFFFFFB, 4}, /* .. goes to -5 in a fault */
     {0x1029, 1, 0, 1},      /* a lost bus takes the node to pre-operational */
-    {0x6000, 1, 0x01, 1},
+    {0x6000, 1, 0x01, 1},   /* refused, as inputs are only read */
 };
 
 typedef struct tick {
@@ -43,17 +45,16 @@ static const tick TICKS[] = {
 
 static void show_entry(io401_device *device, uint16_t index, uint8_t sub)
 {
-    uint32_t value;
-    size_t size;
-    uint32_t number = io401_do_read(device, index, sub, &value, &size);
-    printf("  %04X:%u number %08lX value %lX size %zu\n", index, sub, (unsigned long)number, (unsigned long)value, size);
+    io401_read_answer answer = io401_read(device, index, sub);
+    printf("  %04X:%u number %08lX value %lX size %zu\n", index, sub, (unsigned long)answer.number,
+           (unsigned long)answer.value, answer.size);
 }
 
 static void set_up(io401_device *device)
 {
     for (size_t n = 0; n < sizeof SET_UP / sizeof SET_UP[0]; n++) {
         const setting *s = &SET_UP[n];
-        uint32_t number = io401_do_write_value(device, s->index, s->sub, s->value, s->size);
+        uint32_t number = io401_write_value(device, s->index, s->sub, s->value, s->size);
         if (number != 0)
             printf("set-up: %04X:%u refused with %08lX\n", s->index, s->sub, (unsigned long)number);
     }
@@ -62,10 +63,10 @@ static void set_up(io401_device *device)
 static void follow_bus(io401_device *device, int16_t bus)
 {
     if (bus < 0)
-        io401_do_raise(device, IO401_COMMUNICATION_LOSS);
+        io401_raise(device, IO401_COMMUNICATION_LOSS);
     if (bus > 0) {
-        io401_do_clear(device, IO401_COMMUNICATION_LOSS);
-        io401_do_command(device, IO401_START, IO401_ALL_NODES);
+        io401_clear(device, IO401_COMMUNICATION_LOSS);
+        io401_command(device, IO401_START, IO401_ALL_NODES);
     }
 }
 
@@ -74,24 +75,24 @@ static void run_tick(io401_device *device, size_t at)
     const uint8_t digital[IO401_LINE_BYTES] = {TICKS[at].lines};
     const int16_t analogue[IO401_ANALOGUE_INPUTS] = {TICKS[at].channel};
     uint8_t events[IO401_LINE_BYTES];
-    uint16_t analogue_events;
     uint8_t lines[IO401_LINE_BYTES];
     int16_t channels[IO401_ANALOGUE_OUTPUTS];
 
     follow_bus(device, TICKS[at].bus);
-    io401_do_sample(device, digital, analogue, events, &analogue_events);
-    io401_do_drive(device, lines, channels);
-    printf("tick %zu: state %u events %02X %04X drives %02X %d\n", at, device->node.state, events[0], analogue_events,
+    io401_sample_answer answer = io401_sample(device, digital, IO401_LINE_BYTES, analogue, IO401_ANALOGUE_INPUTS,
+                                              events, IO401_LINE_BYTES);
+    io401_drive(device, lines, IO401_LINE_BYTES, channels, IO401_ANALOGUE_OUTPUTS);
+    printf("tick %zu: state %u events %02X %04X drives %02X %d\n", at, io401_state(device), events[0], answer.events,
            lines[0], channels[0]);
 }
 
 int main(void)
 {
     io401_device device;
-    if (io401_do_create(&device, 5) != 0)
+    if (io401_create(&device, NODE) != 0)
         return 1;
     set_up(&device);
-    io401_do_command(&device, IO401_START, 5);
+    io401_command(&device, IO401_START, NODE);
     for (size_t at = 0; at < sizeof TICKS / sizeof TICKS[0]; at++)
         run_tick(&device, at);
     printf("after the last tick:\n");
@@ -100,7 +101,7 @@ int main(void)
     show_entry(&device, 0x6422, 1);
     show_entry(&device, 0x6422, 1);
     show_entry(&device, 0x6200, 1);
-    io401_do_command(&device, IO401_STOP, 5);
+    io401_command(&device, IO401_STOP, NODE);
     show_entry(&device, 0x6200, 1);
     return 0;
 }

@@ -1,25 +1,26 @@
-// Whether two devices are the same, field by field.
+// Whether two devices are the same, array by array.
 use device::Device;
-use profile::AnalogueInput;
-use profile::AnalogueOutput;
-use profile::Node;
 use profile::State;
 
 pub fn same_device(a: Device, b: Device) -> bool {
-    let a_lines = a.lines;
-    let b_lines = b.lines;
-    let a_words = a_lines.words;
-    let b_words = b_lines.words;
-    let a_inputs = a.inputs;
-    let b_inputs = b.inputs;
-    let a_outputs = a.outputs;
-    let b_outputs = b.outputs;
-    let a_node = a.node;
-    let b_node = b.node;
-    same_node(a_node, b_node)
+    let a_octets = a.octets;
+    let b_octets = b.octets;
+    let a_flags = a.flags;
+    let b_flags = b.flags;
+    let a_words = a.words;
+    let b_words = b.words;
+    let a_limits = a.limits;
+    let b_limits = b.limits;
+    let a_deltas = a.deltas;
+    let b_deltas = b.deltas;
+    let a_values = a.values;
+    let b_values = b.values;
+    same_octets(a_octets, b_octets)
+        & same_flags(a_flags, b_flags)
         & same_words(a_words, b_words)
-        & same_inputs(a_inputs, b_inputs)
-        & same_outputs(a_outputs, b_outputs)
+        & same_limits(a_limits, b_limits)
+        & same_deltas(a_deltas, b_deltas)
+        & same_values(a_values, b_values)
 }
 
 pub fn same_bytes(a: &[u8], b: &[u8]) -> bool {
@@ -59,16 +60,26 @@ pub fn state_number(state: State) -> u8 {
     }
 }
 
-fn same_node(a: Node, b: Node) -> bool {
-    let a_state = a.state;
-    let b_state = b.state;
-    (a.number == b.number)
-        & (state_number(a_state) == state_number(b_state))
-        & (a.internal == b.internal)
-        & (a.lost == b.lost)
-        & (a.behaviour == b.behaviour)
-        & (a.digital == b.digital)
-        & (a.analogue == b.analogue)
+fn same_octets(a: [u8; 21], b: [u8; 21]) -> bool {
+    let mut i: usize = 0;
+    while i < 21 {
+        if a[i] != b[i] {
+            return false;
+        }
+        i += 1;
+    }
+    true
+}
+
+fn same_flags(a: [bool; 12], b: [bool; 12]) -> bool {
+    let mut i: usize = 0;
+    while i < 12 {
+        if a[i] != b[i] {
+            return false;
+        }
+        i += 1;
+    }
+    true
 }
 
 fn same_words(a: [u64; 28], b: [u64; 28]) -> bool {
@@ -82,12 +93,10 @@ fn same_words(a: [u64; 28], b: [u64; 28]) -> bool {
     true
 }
 
-fn same_inputs(a: [AnalogueInput; 16], b: [AnalogueInput; 16]) -> bool {
+fn same_limits(a: [i32; 32], b: [i32; 32]) -> bool {
     let mut i: usize = 0;
-    while i < 16 {
-        let one = a[i];
-        let other = b[i];
-        if !same_input(one, other) {
+    while i < 32 {
+        if a[i] != b[i] {
             return false;
         }
         i += 1;
@@ -95,24 +104,10 @@ fn same_inputs(a: [AnalogueInput; 16], b: [AnalogueInput; 16]) -> bool {
     true
 }
 
-fn same_input(a: AnalogueInput, b: AnalogueInput) -> bool {
-    (a.selection == b.selection)
-        & (a.upper == b.upper)
-        & (a.lower == b.lower)
-        & (a.delta == b.delta)
-        & (a.negative == b.negative)
-        & (a.positive == b.positive)
-        & (a.last == b.last)
-        & (a.reference == b.reference)
-        & (a.source == b.source)
-}
-
-fn same_outputs(a: [AnalogueOutput; 8], b: [AnalogueOutput; 8]) -> bool {
+fn same_deltas(a: [u32; 48], b: [u32; 48]) -> bool {
     let mut i: usize = 0;
-    while i < 8 {
-        let one = a[i];
-        let other = b[i];
-        if !same_output(one, other) {
+    while i < 48 {
+        if a[i] != b[i] {
             return false;
         }
         i += 1;
@@ -120,6 +115,13 @@ fn same_outputs(a: [AnalogueOutput; 8], b: [AnalogueOutput; 8]) -> bool {
     true
 }
 
-fn same_output(a: AnalogueOutput, b: AnalogueOutput) -> bool {
-    (a.mode == b.mode) & (a.error == b.error) & (a.kept == b.kept) & (a.driven == b.driven)
+fn same_values(a: [i16; 56], b: [i16; 56]) -> bool {
+    let mut i: usize = 0;
+    while i < 56 {
+        if a[i] != b[i] {
+            return false;
+        }
+        i += 1;
+    }
+    true
 }

@@ -6,7 +6,8 @@ pub mod TwosComplement
 pub mod ByteLaws
 pub mod MeetsLaws
 pub mod Mapped
+pub mod Sweeps
+pub mod StoreLaws
 pub mod SourceLaws
-pub mod SetLaws
 pub mod Gathered
 pub mod WriteLaws

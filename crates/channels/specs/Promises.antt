@@ -1,4 +1,4 @@
--- What the functions on analogue channels promise. A channel past the end of an array is read as one with every field 0.
+-- What the functions on analogue channels promise.
 -- Assumes nothing.
 use mathlib.Core.Path.{_≡_}
 use mathlib.Core.Bool.{Bool, false, cond, _&&_, _||_}
@@ -12,20 +12,9 @@ use Rattle.profile.specs.declared.AnalogueInput.{AnalogueInput}
 use Rattle.profile.specs.declared.AnalogueOutput.{AnalogueOutput}
 use Rattle.profile.specs.Bits.{bitAt, gather}
 use Rattle.profile.specs.Bytes.{listFrom}
-use Rattle.profile.specs.Analogue.{eqZ, meets, sampleChannel, clearSource, writeAnalogueInput, writeAnalogueOutput, moveAnalogueOutput}
-
-abbrev pub blankInput : AnalogueInput
-blankInput = record { selection = 0; upper = pos 0; lower = pos 0; delta = 0; negative = 0; positive = 0; last = pos 0; reference = pos 0; source = false }
-
-abbrev pub blankOutput : AnalogueOutput
-blankOutput = record { mode = false; error = pos 0; kept = pos 0; driven = pos 0 }
-
--- channel n of an array
-abbrev pub inputOf : List AnalogueInput → ℕ → AnalogueInput
-inputOf channels n = getD channels n blankInput
-
-abbrev pub outputOf : List AnalogueOutput → ℕ → AnalogueOutput
-outputOf channels n = getD channels n blankOutput
+use Rattle.profile.specs.AnalogueInput.{eqZ, meets, sampleChannel, clearSource, writeAnalogueInput}
+use Rattle.profile.specs.AnalogueOutput.{writeAnalogueOutput, moveAnalogueOutput}
+use Rattle.channels.specs.View.{sourcesOf, Outside}
 
 -- the parts of `meets`: a selected limit of 6424 or 6425 is passed, and a selected delta of 6426, 6427 or 6428 is exceeded
 unfoldable pub meetsLimit : ℤ → AnalogueInput → Bool
@@ -42,8 +31,8 @@ abbrev pub still : ℤ → AnalogueInput → Bool
 still x m = eqZ x (m .last) && eqZ x (m .reference)
 
 -- channel n meets a selected condition at its own number, and events are on: the node is operational and 6423 is 1
-unfoldable pub met : Bool → List ℤ → List AnalogueInput → ℕ → Bool
-met on xs channels n = on && meets (getD xs n (pos 0)) (inputOf channels n)
+unfoldable pub met : Bool → List ℤ → (ℕ → AnalogueInput) → ℕ → Bool
+met on xs channels n = on && meets (getD xs n (pos 0)) (channels n)
 
 -- one channel was sampled at x
 pub record Sampled (on : Bool) (x : ℤ) (old : AnalogueInput) (event : Bool) (new : AnalogueInput) : Type 0 where
@@ -51,26 +40,75 @@ pub record Sampled (on : Bool) (x : ℤ) (old : AnalogueInput) (event : Bool) (n
   pub channel-is : new ≡ sampleChannel event x old
 
 -- sixteen channels were sampled
-pub record AllSampled (on : Bool) (xs : List ℤ) (old : List AnalogueInput) (events : ℕ) (new : List AnalogueInput) : Type 0 where
+pub record AllSampled (on : Bool) (xs : List ℤ) (old : ℕ → AnalogueInput) (events : ℕ) (new : ℕ → AnalogueInput) : Type 0 where
   pub events-are : events ≡ gather 16 (met on xs old)
-  pub channels : (n : ℕ) → n < 16 → inputOf new n ≡ sampleChannel (met on xs old n) (getD xs n (pos 0)) (inputOf old n)
+  pub channels : (n : ℕ) → n < 16 → new n ≡ sampleChannel (met on xs old n) (getD xs n (pos 0)) (old n)
+
+-- a channel has taken its number; its source bit waits until all have
+abbrev pub tookNumber : Bool → ℤ → AnalogueInput → AnalogueInput
+tookNumber event x m =
+    record {
+      selection = m .selection;
+      upper = m .upper;
+      lower = m .lower;
+      delta = m .delta;
+      negative = m .negative;
+      positive = m .positive;
+      last = x;
+      reference = cond event x (m .reference);
+      source = m .source;
+    }
+
+-- sixteen channels have
+pub record NumbersTaken (on : Bool) (xs : List ℤ) (old : ℕ → AnalogueInput) (events : ℕ) (new : ℕ → AnalogueInput)
+    (values values′ : List ℤ) : Type 0 where
+  pub events-are : events ≡ gather 16 (met on xs old)
+  pub channels : (n : ℕ) → n < 16 → new n ≡ tookNumber (met on xs old n) (getD xs n (pos 0)) (old n)
+  pub values-kept : Outside 0 32 (pos 0) values values′
 
 -- the source bits of sixteen channels, and the channels with them cleared
-pub record SourcesTaken (old : List AnalogueInput) (sources : ℕ) (new : List AnalogueInput) : Type 0 where
-  pub sources-are : sources ≡ gather 16 (λ n. inputOf old n .source)
-  pub channels : (n : ℕ) → n < 16 → inputOf new n ≡ clearSource (inputOf old n)
+pub record SourcesTaken (old : ℕ → AnalogueInput) (sources : ℕ) (new : ℕ → AnalogueInput) : Type 0 where
+  pub sources-are : sources ≡ gather 16 (λ n. old n .source)
+  pub channels : (n : ℕ) → n < 16 → new n ≡ clearSource (old n)
 
 -- v was written to an index of channel n
-pub record InputWritten (index n v : ℕ) (old new : List AnalogueInput) : Type 0 where
-  pub channels : (i : ℕ) → i < 16 → inputOf new i ≡ cond (eqb i n) (writeAnalogueInput index v (inputOf old i)) (inputOf old i)
+pub record InputWritten (index n v : ℕ) (old new : ℕ → AnalogueInput) : Type 0 where
+  pub channels : (i : ℕ) → i < 16 → new i ≡ cond (eqb i n) (writeAnalogueInput index v (old i)) (old i)
 
-pub record OutputWritten (fault : Bool) (index n v : ℕ) (old new : List AnalogueOutput) : Type 0 where
-  pub channels : (i : ℕ) → i < 8 → outputOf new i ≡ cond (eqb i n) (writeAnalogueOutput fault index v (outputOf old i)) (outputOf old i)
+pub record OutputWritten (fault : Bool) (index n v : ℕ) (old new : ℕ → AnalogueOutput) : Type 0 where
+  pub channels : (i : ℕ) → i < 8 → new i ≡ cond (eqb i n) (writeAnalogueOutput fault index v (old i)) (old i)
 
 -- fault was `before` and is `after`, at eight outputs
-pub record AllMoved (before after : Bool) (old new : List AnalogueOutput) : Type 0 where
-  pub channels : (n : ℕ) → n < 8 → outputOf new n ≡ moveAnalogueOutput before after (outputOf old n)
+pub record AllMoved (before after : Bool) (old new : ℕ → AnalogueOutput) : Type 0 where
+  pub channels : (n : ℕ) → n < 8 → new n ≡ moveAnalogueOutput before after (old n)
 
 -- the numbers are what eight outputs drive
-pub record Driven (channels : List AnalogueOutput) (xs : List ℤ) : Type 0 where
-  pub numbers : xs ≡ listFrom 8 0 (λ n. outputOf channels n .driven)
+pub record Driven (driven : ℕ → ℤ) (xs : List ℤ) : Type 0 where
+  pub numbers : xs ≡ listFrom 8 0 driven
+
+-- ---- and what else of the arrays stays
+
+pub record InputsSampled (on : Bool) (xs : List ℤ) (events : ℕ) (old new : ℕ → AnalogueInput) (octets octets′ : List ℕ)
+    (values values′ : List ℤ) : Type 0 where
+  pub sampled : AllSampled on xs old events new
+  pub octets-kept : Outside 19 21 0 octets octets′
+  pub values-kept : Outside 0 32 (pos 0) values values′
+
+-- the source bits became v
+pub record SourcesStored (v : ℕ) (octets octets′ : List ℕ) : Type 0 where
+  pub are : sourcesOf octets′ ≡ v
+  pub octets-kept : Outside 19 21 0 octets octets′
+
+pub record InputStored (index n v : ℕ) (old new : ℕ → AnalogueInput) (octets octets′ : List ℕ) : Type 0 where
+  pub written : InputWritten index n v old new
+  pub octets-kept : Outside 3 19 0 octets octets′
+
+pub record OutputStored (fault : Bool) (index n v : ℕ) (old new : ℕ → AnalogueOutput) (flags flags′ : List Bool)
+    (values values′ : List ℤ) : Type 0 where
+  pub written : OutputWritten fault index n v old new
+  pub flags-kept : Outside 4 12 false flags flags′
+  pub values-kept : Outside 32 56 (pos 0) values values′
+
+pub record OutputsMoved (before after : Bool) (old new : ℕ → AnalogueOutput) (values values′ : List ℤ) : Type 0 where
+  pub moved : AllMoved before after old new
+  pub values-kept : Outside 32 56 (pos 0) values values′

@@ -1,4 +1,9 @@
 // The analogue inputs.
+use crate::fields::input_at;
+use crate::fields::set_sample;
+use crate::fields::set_settings;
+use crate::fields::set_sources;
+use crate::fields::sources_at;
 use crate::numbers::bits16;
 use crate::numbers::bits32;
 use crate::numbers::signed32;
@@ -6,26 +11,22 @@ use profile::AnalogueInput;
 ghost use mathlib.Core.Path.{_≡_};
 ghost use Prim.Native.Nat.{_*_, _^_, _<_};
 ghost use lib.ListN.{length};
-ghost use Rattle.profile.specs.Bits.{bit, gather};
-ghost use Rattle.profile.specs.Entries.{inputSize};
-ghost use Rattle.profile.specs.Analogue.{meets, readAnalogueInput, writeAnalogueInput};
-ghost use Rattle.channels.specs.Numbers.{raised};
-ghost use Rattle.channels.specs.Promises.{inputOf, meetsLimit, meetsDelta, still, Sampled, AllSampled, SourcesTaken, InputWritten};
+ghost use Rattle.profile.specs.Bits.{bitAt, bit, gather};
+ghost use Rattle.profile.specs.AnalogueInput.{inputSize};
+ghost use Rattle.profile.specs.AnalogueInput.{meets, readAnalogueInput, writeAnalogueInput};
+ghost use Rattle.channels.specs.Numbers.{fromLeast};
+ghost use Rattle.channels.specs.Promises.{meetsLimit, meetsDelta, still, Sampled, NumbersTaken, InputsSampled, SourcesStored};
+ghost use Rattle.channels.specs.Promises.{InputStored};
+ghost use Rattle.channels.specs.View.{inputAt, sourcesOf};
 
 pub struct SampledChannel {
     pub channel: AnalogueInput,
     pub event: bool,
 }
 
-pub struct SampledInputs {
-    pub channels: [AnalogueInput; 16],
-    // Bit n - 1 for channel n.
-    pub events: u16,
-}
-
 // Counted up from -32,768, so that no difference of two wraps.
-fn raise(x: i16) -> u32
-    ensures { λ r. ⌜ r ≡ raised 32768 x ⌝ }
+fn from_least(x: i16) -> u32
+    ensures { λ r. ⌜ r ≡ fromLeast 32768 x ⌝ }
 {
     ((x as i32) + 32768) as u32
 }
@@ -45,8 +46,8 @@ fn meets_delta(channel: AnalogueInput, x: i16) -> bool
     ensures { λ r. ⌜ r ≡ meetsDelta x channel ⌝ }
 {
     let selection = channel.selection;
-    let to = raise(x);
-    let from = raise(channel.reference);
+    let to = from_least(x);
+    let from = from_least(channel.reference);
     if to < from {
         let fall = from - to;
         let delta = (selection / 4 % 2 == 1) & (channel.delta < fall);
@@ -98,64 +99,75 @@ fn weigh(b: bool, weight: u32) -> u32
     if b { weight } else { 0 }
 }
 
-pub fn sample_all(channels: [AnalogueInput; 16], xs: &[i16], on: bool) -> SampledInputs
+// Every channel takes its number. The events, bit n - 1 for channel n.
+fn take_numbers(
+    octets: &[u8; 21],
+    limits: &[i32; 32],
+    deltas: &[u32; 48],
+    values: &mut [i16; 56],
+    xs: &[i16],
+    on: bool,
+) -> u32
+    requires { ⌜ length (now values) ≡ 56 ⌝ }
     requires { ⌜ length (now xs) ≡ 16 ⌝ }
-    ensures { λ r. ⌜ AllSampled on (now (xs .entry)) channels (r .events) (r .channels) ⌝ }
+    ensures { λ r. ⌜ NumbersTaken on (now (xs .entry))
+        (inputAt (now (octets .entry)) (now (limits .entry)) (now (deltas .entry)) (now (values .entry))) r
+        (inputAt (now (octets .entry)) (now (limits .entry)) (now (deltas .entry)) (now (values .exit)))
+        (now (values .entry)) (now (values .exit)) ⌝ }
 {
-    let mut next = channels;
     let mut events: u32 = 0;
     let mut i: usize = 16;
     // Downward and with no running weight: fewer instructions for each channel that is still.
     while 0 < i {
         i -= 1;
         let x = xs[i];
-        let seen = next[i];
+        let seen = input_at(octets, limits, deltas, values, i);
         if !is_still(seen, x) {
-            let old = next[i];
+            let old = input_at(octets, limits, deltas, values, i);
             let result = sampled(old, x, on);
             let channel = result.channel;
-            next[i] = channel;
+            set_sample(values, i, channel);
             events += weigh(result.event, 1u32 << i);
         }
     }
-    SampledInputs {
-        events: events as u16,
-        channels: next,
-    }
+    events
+}
+
+// The same, and the source bit of each event becomes 1.
+pub fn sample_all(
+    octets: &mut [u8; 21],
+    limits: &[i32; 32],
+    deltas: &[u32; 48],
+    values: &mut [i16; 56],
+    xs: &[i16],
+    on: bool,
+) -> u16
+    requires { ⌜ (length (now octets) ≡ 21) × (length (now values) ≡ 56) ⌝ }
+    requires { ⌜ length (now xs) ≡ 16 ⌝ }
+    ensures { λ r. ⌜ InputsSampled on (now (xs .entry)) r
+        (inputAt (now (octets .entry)) (now (limits .entry)) (now (deltas .entry)) (now (values .entry)))
+        (inputAt (now (octets .exit)) (now (limits .entry)) (now (deltas .entry)) (now (values .exit)))
+        (now (octets .entry)) (now (octets .exit)) (now (values .entry)) (now (values .exit)) ⌝ }
+{
+    let events = take_numbers(octets, limits, deltas, values, xs, on);
+    let sources = sources_at(octets);
+    set_sources(octets, events | sources);
+    events as u16
 }
 
 // The source bits that a read of 6422:1 answers, bit n - 1 for channel n.
-pub fn read_sources(channels: [AnalogueInput; 16]) -> u32
-    ensures { λ r. ⌜ r ≡ gather 16 (λ n. inputOf channels n .source) ⌝ }
+pub fn read_sources(octets: &[u8; 21]) -> u32
+    ensures { λ r. ⌜ r ≡ gather 16 (bitAt (sourcesOf (now (octets .entry)))) ⌝ }
 {
-    let mut sources: u32 = 0;
-    let mut weight: u32 = 1;
-    let mut i: usize = 0;
-    while i < 16 {
-        let channel = channels[i];
-        sources += weigh(channel.source, weight);
-        weight *= 2;
-        i += 1;
-    }
-    sources
+    sources_at(octets)
 }
 
-// The channels with their source bits cleared, up to the last one that is set.
-pub fn clear_sources(channels: [AnalogueInput; 16], sources: u32) -> [AnalogueInput; 16]
-    requires { ⌜ sources ≡ gather 16 (λ n. inputOf channels n .source) ⌝ }
-    ensures { λ r. ⌜ SourcesTaken channels sources r ⌝ }
+// Every source bit becomes 0.
+pub fn clear_sources(octets: &mut [u8; 21])
+    requires { ⌜ length (now octets) ≡ 21 ⌝ }
+    ensures { λ _. ⌜ SourcesStored 0 (now (octets .entry)) (now (octets .exit)) ⌝ }
 {
-    let mut next = channels;
-    let mut rest = sources;
-    let mut i: usize = 0;
-    while 0 < rest {
-        let mut channel = next[i];
-        channel.source = false;
-        next[i] = channel;
-        rest = rest / 2;
-        i += 1;
-    }
-    next
+    set_sources(octets, 0);
 }
 
 // The value that an index has for a channel, as an unsigned number.
@@ -217,18 +229,24 @@ pub fn write_input(channel: AnalogueInput, index: u16, value: u32) -> AnalogueIn
     next
 }
 
-// The channels with a value written to one of them.
-pub fn write_inputs(
-    channels: [AnalogueInput; 16],
+// A value is written to one channel.
+pub fn write_at(
+    octets: &mut [u8; 21],
+    limits: &mut [i32; 32],
+    deltas: &mut [u32; 48],
+    values: &[i16; 56],
     n: usize,
     index: u16,
     value: u32,
-) -> [AnalogueInput; 16]
+)
+    requires { ⌜ (length (now octets) ≡ 21) × (length (now limits) ≡ 32) × (length (now deltas) ≡ 48) ⌝ }
     requires { ⌜ (n < 16) × (value < 256 ^ inputSize index) ⌝ }
-    ensures { λ r. ⌜ InputWritten index n value channels r ⌝ }
+    ensures { λ _. ⌜ InputStored index n value
+        (inputAt (now (octets .entry)) (now (limits .entry)) (now (deltas .entry)) (now (values .entry)))
+        (inputAt (now (octets .exit)) (now (limits .exit)) (now (deltas .exit)) (now (values .entry)))
+        (now (octets .entry)) (now (octets .exit)) ⌝ }
 {
-    let mut next = channels;
-    let channel = next[n];
-    next[n] = write_input(channel, index, value);
-    next
+    let channel = input_at(octets, limits, deltas, values, n);
+    let next = write_input(channel, index, value);
+    set_settings(octets, limits, deltas, n, next);
 }

@@ -1,4 +1,8 @@
 // The analogue outputs.
+use crate::fields::driven_at;
+use crate::fields::output_at;
+use crate::fields::set_driven;
+use crate::fields::set_output;
 use crate::numbers::bits16;
 use crate::numbers::bits32;
 use crate::numbers::signed16;
@@ -7,9 +11,10 @@ use profile::AnalogueOutput;
 ghost use mathlib.Core.Path.{_≡_};
 ghost use Prim.Native.Nat.{_<_};
 ghost use lib.ListN.{length};
-ghost use Rattle.profile.specs.Analogue.{moveAnalogueOutput, readAnalogueOutput, writeAnalogueOutput};
+ghost use Rattle.profile.specs.AnalogueOutput.{moveAnalogueOutput, readAnalogueOutput, writeAnalogueOutput};
 ghost use Rattle.channels.specs.Outputs.{Writable};
-ghost use Rattle.channels.specs.Promises.{OutputWritten, AllMoved, Driven};
+ghost use Rattle.channels.specs.Promises.{OutputStored, OutputsMoved, Driven};
+ghost use Rattle.channels.specs.View.{outputAt, drivenOf};
 
 // When fault begins, the output drives the error value if error mode is 1; when fault ends, it follows the kept value.
 pub fn moved(output: AnalogueOutput, before: bool, after: bool) -> AnalogueOutput
@@ -28,17 +33,20 @@ pub fn moved(output: AnalogueOutput, before: bool, after: bool) -> AnalogueOutpu
     next
 }
 
-pub fn move_all(outputs: [AnalogueOutput; 8], before: bool, after: bool) -> [AnalogueOutput; 8]
-    ensures { λ r. ⌜ AllMoved before after outputs r ⌝ }
+// Every output moves where fault begins or ends.
+pub fn move_all(flags: &[bool; 12], values: &mut [i16; 56], before: bool, after: bool)
+    requires { ⌜ length (now values) ≡ 56 ⌝ }
+    ensures { λ _. ⌜ OutputsMoved before after
+        (outputAt (now (flags .entry)) (now (values .entry))) (outputAt (now (flags .entry)) (now (values .exit)))
+        (now (values .entry)) (now (values .exit)) ⌝ }
 {
-    let mut next = outputs;
     let mut i: usize = 0;
     while i < 8 {
-        let old = next[i];
-        next[i] = moved(old, before, after);
+        let old = output_at(flags, values, i);
+        let next = moved(old, before, after);
+        set_driven(values, i, next.driven);
         i += 1;
     }
-    next
 }
 
 // The value that an index has for a channel, as an unsigned number.
@@ -79,31 +87,34 @@ pub fn write_output(output: AnalogueOutput, index: u16, value: u32, fault: bool)
     next
 }
 
-// The channels with a value written to one of them.
-pub fn write_outputs(
-    outputs: [AnalogueOutput; 8],
+// A value is written to one channel.
+pub fn write_at(
+    flags: &mut [bool; 12],
+    values: &mut [i16; 56],
     n: usize,
     index: u16,
     value: u32,
     fault: bool,
-) -> [AnalogueOutput; 8]
+)
+    requires { ⌜ (length (now flags) ≡ 12) × (length (now values) ≡ 56) ⌝ }
     requires { ⌜ (n < 8) × Writable index value ⌝ }
-    ensures { λ r. ⌜ OutputWritten fault index n value outputs r ⌝ }
+    ensures { λ _. ⌜ OutputStored fault index n value
+        (outputAt (now (flags .entry)) (now (values .entry))) (outputAt (now (flags .exit)) (now (values .exit)))
+        (now (flags .entry)) (now (flags .exit)) (now (values .entry)) (now (values .exit)) ⌝ }
 {
-    let mut next = outputs;
-    let output = next[n];
-    next[n] = write_output(output, index, value, fault);
-    next
+    let output = output_at(flags, values, n);
+    let next = write_output(output, index, value, fault);
+    set_output(flags, values, n, next);
 }
 
-pub fn drive(outputs: [AnalogueOutput; 8], out: &mut [i16])
+// The driven numbers.
+pub fn drive(values: &[i16; 56], out: &mut [i16])
     requires { ⌜ length (now out) ≡ 8 ⌝ }
-    ensures { λ _. ⌜ Driven outputs (now (out .exit)) ⌝ }
+    ensures { λ _. ⌜ Driven (drivenOf (now (values .entry))) (now (out .exit)) ⌝ }
 {
     let mut i: usize = 0;
     while i < 8 {
-        let output = outputs[i];
-        let driven = output.driven;
+        let driven = driven_at(values, i);
         out[i] = driven;
         i += 1;
     }

@@ -1,90 +1,135 @@
-// command, raise and clear. Where fault begins or ends with the new node, every output moves; done in each call, since a shared function would copy the device once more.
-use crate::Answer;
-use crate::Device;
+// create, command, raise and clear, in place.
+use crate::store::lend;
+use crate::store::lend_settings;
+use crate::store::node_at;
+use crate::store::set_fresh;
+use crate::store::set_node;
 use channels::outputs::move_all;
+use lines::machines::move_outputs;
 use profile::Cause;
+use profile::nodes::RESET_NODE;
 use profile::refusals::command_refusal;
+use profile::refusals::create_refusal;
+ghost use mathlib.Core.Path.{_≡_};
+ghost use lib.ListN.{length};
 ghost use Rattle.profile.specs.Calls.{Call};
-ghost use Rattle.profile.specs.Lists.{Outcome};
-ghost use Rattle.device.specs.View.{machinesOf, plainAnswer};
+ghost use Rattle.profile.specs.Replies.{plain};
+ghost use Rattle.device.specs.View.{held};
+ghost use Rattle.device.specs.Promises.{FreshAs, Ensured, EnsuredBeside, Followed};
 
-impl Device {
-    pub fn command(mut self, code: u8, node: u8) -> Answer
-        ensures { λ r. ⌜ Outcome (machinesOf self) (Call.command code node) (plainAnswer r) (machinesOf (r .device)) ⌝ }
-    {
-        let refused = command_refusal(code, node);
-        if refused != 0 {
-            return Answer {
-                number: refused,
-                device: self,
-            };
-        }
-        let was = self.node;
-        if !was.is_addressed(node) {
-            return Answer {
-                number: 0,
-                device: self,
-            };
-        }
-        if code == 129 {
-            return Answer {
-                number: 0,
-                device: Device::fresh(was.number),
-            };
-        }
-        let now = was.obeyed(code);
-        let before = was.in_fault();
-        let after = now.in_fault();
-        let lines = self.lines;
-        let outputs = self.outputs;
-        let moved_lines = lines.moved(before, after);
-        let moved_outputs = move_all(outputs, before, after);
-        self.node = now;
-        self.lines = moved_lines;
-        self.outputs = moved_outputs;
-        Answer {
-            number: 0,
-            device: self,
-        }
+// A refused node number gives a device with node number 127.
+pub fn create(
+    octets: &mut [u8; 21],
+    flags: &mut [bool; 12],
+    words: &mut [u64; 28],
+    limits: &mut [i32; 32],
+    deltas: &mut [u32; 48],
+    values: &mut [i16; 56],
+    number: u8,
+) -> u32
+    ensures { λ r. ⌜ FreshAs number r
+        (held (now (octets .exit)) (now (flags .exit)) (now (words .exit)) (now (limits .exit)) (now (deltas .exit))
+        (now (values .exit))) ⌝ }
+{
+    let refused = create_refusal(number);
+    if refused != 0 {
+        set_fresh(octets, flags, words, limits, deltas, values, 127);
+        return refused;
     }
+    set_fresh(octets, flags, words, limits, deltas, values, number);
+    0
+}
 
-    pub fn raise(mut self, cause: Cause) -> Answer
-        ensures { λ r. ⌜ Outcome (machinesOf self) (Call.raise cause) (plainAnswer r) (machinesOf (r .device)) ⌝ }
-    {
-        let was = self.node;
-        let node = was.raised(cause);
-        let before = was.in_fault();
-        let after = node.in_fault();
-        let lines = self.lines;
-        let outputs = self.outputs;
-        let raised_lines = lines.moved(before, after);
-        let raised_outputs = move_all(outputs, before, after);
-        self.node = node;
-        self.lines = raised_lines;
-        self.outputs = raised_outputs;
-        Answer {
-            number: 0,
-            device: self,
-        }
+pub fn command(
+    octets: &mut [u8; 21],
+    flags: &mut [bool; 12],
+    words: &mut [u64; 28],
+    limits: &mut [i32; 32],
+    deltas: &mut [u32; 48],
+    values: &mut [i16; 56],
+    code: u8,
+    to: u8,
+) -> u32
+    ensures { λ r. ⌜ Ensured
+        (held (now (octets .entry)) (now (flags .entry)) (now (words .entry)) (now (limits .entry)) (now (deltas .entry))
+        (now (values .entry)))
+        (Call.command code to) (plain r)
+        (held (now (octets .exit)) (now (flags .exit)) (now (words .exit)) (now (limits .exit)) (now (deltas .exit))
+        (now (values .exit))) ⌝ }
+{
+    lend(octets, flags, words, values);
+    lend_settings(limits, deltas);
+    let refused = command_refusal(code, to);
+    if refused != 0 {
+        return refused;
     }
+    let was = node_at(octets, flags);
+    if !was.is_addressed(to) {
+        return 0;
+    }
+    if code == RESET_NODE {
+        set_fresh(octets, flags, words, limits, deltas, values, was.number);
+        return 0;
+    }
+    let new = was.obeyed(code);
+    set_node(octets, flags, new);
+    follow_fault(flags, words, values, was.in_fault(), new.in_fault());
+    0
+}
 
-    pub fn clear(mut self, cause: Cause) -> Answer
-        ensures { λ r. ⌜ Outcome (machinesOf self) (Call.clear cause) (plainAnswer r) (machinesOf (r .device)) ⌝ }
-    {
-        let was = self.node;
-        let node = was.cleared(cause);
-        let before = was.in_fault();
-        let after = node.in_fault();
-        let lines = self.lines;
-        let outputs = self.outputs;
-        let cleared_lines = lines.moved(before, after);
-        let cleared_outputs = move_all(outputs, before, after);
-        self.node = node;
-        self.lines = cleared_lines;
-        self.outputs = cleared_outputs;
-        Answer {
-            number: 0,
-            device: self,
-        }
+pub fn raise(
+    octets: &mut [u8; 21],
+    flags: &mut [bool; 12],
+    words: &mut [u64; 28],
+    values: &mut [i16; 56],
+    cause: Cause,
+) -> u32
+    ensures { λ r. ⌜ EnsuredBeside (now (octets .entry)) (now (flags .entry)) (now (words .entry)) (now (values .entry))
+        (Call.raise cause) (plain r)
+        (now (octets .exit)) (now (flags .exit)) (now (words .exit)) (now (values .exit)) ⌝ }
+{
+    lend(octets, flags, words, values);
+    let was = node_at(octets, flags);
+    let new = was.raised(cause);
+    set_node(octets, flags, new);
+    follow_fault(flags, words, values, was.in_fault(), new.in_fault());
+    0
+}
+
+pub fn clear(
+    octets: &mut [u8; 21],
+    flags: &mut [bool; 12],
+    words: &mut [u64; 28],
+    values: &mut [i16; 56],
+    cause: Cause,
+) -> u32
+    ensures { λ r. ⌜ EnsuredBeside (now (octets .entry)) (now (flags .entry)) (now (words .entry)) (now (values .entry))
+        (Call.clear cause) (plain r)
+        (now (octets .exit)) (now (flags .exit)) (now (words .exit)) (now (values .exit)) ⌝ }
+{
+    lend(octets, flags, words, values);
+    let was = node_at(octets, flags);
+    let new = was.cleared(cause);
+    set_node(octets, flags, new);
+    follow_fault(flags, words, values, was.in_fault(), new.in_fault());
+    0
+}
+
+// Where fault begins or ends every output moves.
+fn follow_fault(
+    flags: &[bool; 12],
+    words: &mut [u64; 28],
+    values: &mut [i16; 56],
+    before: bool,
+    after: bool,
+)
+    requires { ⌜ (length (now words) ≡ 28) × (length (now values) ≡ 56) ⌝ }
+    ensures { λ _. ⌜ Followed before after (now (flags .entry)) (now (words .entry)) (now (words .exit)) (now (values .entry))
+        (now (values .exit)) ⌝ }
+{
+    if before == after {
+        return;
     }
+    move_outputs(words, before, after);
+    move_all(flags, values, before, after);
 }

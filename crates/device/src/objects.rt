@@ -1,156 +1,186 @@
-// read and write.
-use crate::Answer;
-use crate::Device;
-use crate::ReadAnswer;
+// read and write, in place.
+use crate::ReadNumber;
+use crate::store::lend;
+use crate::store::lend_settings;
+use crate::store::node_at;
+use crate::store::set_node;
+use channels::fields::input_at;
+use channels::fields::output_at;
+use channels::inputs;
 use channels::inputs::clear_sources;
 use channels::inputs::read_input;
 use channels::inputs::read_sources;
-use channels::inputs::write_inputs;
 use channels::numbers::number;
+use channels::outputs;
 use channels::outputs::read_output;
-use channels::outputs::write_outputs;
+use lines::machines;
 use profile::Entry;
+use profile::Home;
 use profile::refusals::access_refusal;
 use profile::refusals::entry_refusal;
 use profile::refusals::value_refusal;
 ghost use mathlib.Core.Path.{_≡_};
-ghost use mathlib.Core.Bool.{cond, _&&_};
-ghost use lib.Dec.{eqb};
+ghost use lib.ListN.{length};
 ghost use Rattle.profile.specs.Calls.{Call};
-ghost use Rattle.profile.specs.Entries.{sizeOf};
-ghost use Rattle.profile.specs.Machines.{readsSources};
-ghost use Rattle.profile.specs.Lists.{Same, Outcome};
-ghost use Rattle.device.specs.View.{machinesOf, readAnswer, plainAnswer};
-ghost use Rattle.device.specs.Promises.{wrote, Writable};
+ghost use Rattle.profile.specs.Replies.{readValue, plain};
+ghost use Rattle.device.specs.View.{held, partsOf, machinesOf, Sized, readNumber};
+ghost use Rattle.device.specs.Promises.{Ensured, Stepped, wrote, Readable, Writable, SourcesRead};
 
-impl Device {
-    // With one exit, and its parts read here: each function that took the device, and each further exit, would copy it once more.
-    pub fn read(mut self, index: u16, sub: u8) -> ReadAnswer
-        ensures { λ r. ⌜ Outcome (machinesOf self) (Call.read index sub) (readAnswer r) (machinesOf (r .device)) ⌝ }
-    {
-        let entry = Entry::find(index, sub);
-        let node = self.node;
-        let lines = self.lines;
-        let mut inputs = self.inputs;
-        let outputs = self.outputs;
-        let refused = entry_refusal(node.is_stopped(), entry);
-        let value = match entry {
-            Entry::Absent(_) => 0,
-            Entry::Constant(_, value) => value,
-            Entry::Window(row, width, sub) => lines.read(row, width, sub),
-            Entry::Input(index, n) => {
-                let channel = inputs[n];
-                read_input(channel, index)
-            }
-            Entry::Output(index, n) => {
-                let channel = outputs[n];
-                read_output(channel, index)
-            }
-            Entry::Sources => read_sources(inputs),
-            Entry::Device(index) => node.read(index),
-        };
-        let taken = taken_sources(entry, refused, value);
-        if taken != 0 {
-            inputs = clear_sources(inputs, taken);
-        }
-        self.inputs = inputs;
-        let shown = show(entry, refused, value);
-        ReadAnswer {
+pub fn read(
+    octets: &mut [u8; 21],
+    flags: &[bool; 12],
+    words: &[u64; 28],
+    limits: &[i32; 32],
+    deltas: &[u32; 48],
+    values: &[i16; 56],
+    index: u16,
+    sub: u8,
+) -> ReadNumber
+    ensures { λ r. ⌜ Ensured
+        (held (now (octets .entry)) (now (flags .entry)) (now (words .entry)) (now (limits .entry)) (now (deltas .entry))
+        (now (values .entry)))
+        (Call.read index sub) (readNumber r)
+        (held (now (octets .exit)) (now (flags .entry)) (now (words .entry)) (now (limits .entry)) (now (deltas .entry))
+        (now (values .entry))) ⌝ }
+{
+    lend(octets, flags, words, values);
+    let entry = Entry::find(index, sub);
+    let was = node_at(octets, flags);
+    let refused = entry_refusal(was.is_stopped(), entry);
+    if refused != 0 {
+        return ReadNumber {
             number: refused,
-            value: shown.value,
-            size: shown.size,
-            device: self,
-        }
+            value: 0,
+            size: 0,
+        };
     }
-
-    pub fn write(mut self, index: u16, sub: u8, bytes: &[u8]) -> Answer
-        ensures { λ r. ⌜ Outcome (machinesOf self) (Call.write index sub (now (bytes .entry))) (plainAnswer r) (machinesOf (r .device)) ⌝ }
-    {
-        let entry = Entry::find(index, sub);
-        let node = self.node;
-        let refused = access_refusal(node.is_stopped(), entry, bytes.len());
-        if refused != 0 {
-            return Answer {
-                number: refused,
-                device: self,
-            };
-        }
-        let value = number(bytes);
-        let forbidden = value_refusal(entry, value);
-        if forbidden != 0 {
-            return Answer {
-                number: forbidden,
-                device: self,
-            };
-        }
-        Answer {
-            number: 0,
-            device: self.after_write(entry, value),
-        }
-    }
-
-    fn after_write(mut self, entry: Entry, value: u32) -> Device
-        requires { ⌜ Writable entry value ⌝ }
-        ensures { λ r. ⌜ Same (machinesOf r) (wrote entry value self) ⌝ }
-    {
-        let node = self.node;
-        match entry {
-            Entry::Absent(_) => self,
-            Entry::Constant(_, _) => self,
-            Entry::Window(row, width, sub) => {
-                let lines = self.lines;
-                self.lines = lines.write(row, width, sub, value, node.in_fault());
-                self
-            }
-            Entry::Input(index, n) => {
-                let channels = self.inputs;
-                let next = write_inputs(channels, n, index, value);
-                self.inputs = next;
-                self
-            }
-            Entry::Output(index, n) => {
-                let channels = self.outputs;
-                let next = write_outputs(channels, n, index, value, node.in_fault());
-                self.outputs = next;
-                self
-            }
-            Entry::Sources => self,
-            Entry::Device(index) => {
-                self.node = node.written(index, value);
-                self
-            }
-        }
-    }
-}
-
-// What a read shows: nothing where it is refused.
-struct Shown {
-    value: u32,
-    // In bytes.
-    size: usize,
-}
-
-fn show(entry: Entry, refused: u32, value: u32) -> Shown
-    ensures { λ r. ⌜ (r .value ≡ cond (eqb refused 0) value 0) × (r .size ≡ cond (eqb refused 0) (sizeOf entry) 0) ⌝ }
-{
-    if refused != 0 {
-        return Shown { value: 0, size: 0 };
-    }
-    Shown {
+    let home = entry.home;
+    let value = value_at(octets, flags, words, limits, deltas, values, home);
+    take_sources(octets, home);
+    ReadNumber {
+        number: 0,
         value,
-        size: entry.size(),
+        size: entry.size as usize,
     }
 }
 
-// The source bits that a read of an entry clears: those that an accepted read of 6422:1 answers.
-fn taken_sources(entry: Entry, refused: u32, value: u32) -> u32
-    ensures { λ r. ⌜ r ≡ cond (eqb refused 0 && readsSources entry) value 0 ⌝ }
+// The value that a read of an entry answers.
+fn value_at(
+    octets: &[u8; 21],
+    flags: &[bool; 12],
+    words: &[u64; 28],
+    limits: &[i32; 32],
+    deltas: &[u32; 48],
+    values: &[i16; 56],
+    home: Home,
+) -> u32
+    requires { ⌜ Readable home ⌝ }
+    ensures { λ r. ⌜ r ≡ readValue (machinesOf
+        (held (now (octets .entry)) (now (flags .entry)) (now (words .entry)) (now (limits .entry)) (now (deltas .entry))
+        (now (values .entry)))) home ⌝ }
 {
+    match home {
+        Home::Constant(value) => value,
+        Home::Window(row, width, sub) => machines::read(words, row, width, sub),
+        Home::InputChannel(index, n) => {
+            let channel = input_at(octets, limits, deltas, values, n);
+            read_input(channel, index)
+        }
+        Home::OutputChannel(index, n) => {
+            let channel = output_at(flags, values, n);
+            read_output(channel, index)
+        }
+        Home::Sources => read_sources(octets),
+        Home::Device(index) => {
+            let was = node_at(octets, flags);
+            was.read(index)
+        }
+    }
+}
+
+// A read of 6422:1 clears the source bits that it answers.
+fn take_sources(octets: &mut [u8; 21], home: Home)
+    requires { ⌜ length (now octets) ≡ 21 ⌝ }
+    ensures { λ _. ⌜ SourcesRead home (now (octets .entry)) (now (octets .exit)) ⌝ }
+{
+    if let Home::Sources = home {
+        clear_sources(octets);
+    }
+}
+
+pub fn write(
+    octets: &mut [u8; 21],
+    flags: &mut [bool; 12],
+    words: &mut [u64; 28],
+    limits: &mut [i32; 32],
+    deltas: &mut [u32; 48],
+    values: &mut [i16; 56],
+    index: u16,
+    sub: u8,
+    bytes: &[u8],
+) -> u32
+    ensures { λ r. ⌜ Ensured
+        (held (now (octets .entry)) (now (flags .entry)) (now (words .entry)) (now (limits .entry)) (now (deltas .entry))
+        (now (values .entry)))
+        (Call.write index sub (now (bytes .entry))) (plain r)
+        (held (now (octets .exit)) (now (flags .exit)) (now (words .exit)) (now (limits .exit)) (now (deltas .exit))
+        (now (values .exit))) ⌝ }
+{
+    lend(octets, flags, words, values);
+    lend_settings(limits, deltas);
+    let entry = Entry::find(index, sub);
+    let was = node_at(octets, flags);
+    let refused = access_refusal(was.is_stopped(), entry, bytes.len());
     if refused != 0 {
-        return 0;
+        return refused;
     }
-    if let Entry::Sources = entry {
-        return value;
+    let value = number(bytes);
+    let forbidden = value_refusal(entry, value);
+    if forbidden != 0 {
+        return forbidden;
     }
+    let home = entry.home;
+    after_write(octets, flags, words, limits, deltas, values, home, value);
     0
+}
+
+// A write that is not refused, by where its entry lives.
+fn after_write(
+    octets: &mut [u8; 21],
+    flags: &mut [bool; 12],
+    words: &mut [u64; 28],
+    limits: &mut [i32; 32],
+    deltas: &mut [u32; 48],
+    values: &mut [i16; 56],
+    home: Home,
+    value: u32,
+)
+    requires { ⌜ Sized (held (now octets) (now flags) (now words) (now limits) (now deltas) (now values)) ⌝ }
+    requires { ⌜ Writable home value ⌝ }
+    ensures { λ _. ⌜ Stepped
+        (held (now (octets .entry)) (now (flags .entry)) (now (words .entry)) (now (limits .entry)) (now (deltas .entry))
+        (now (values .entry)))
+        (held (now (octets .exit)) (now (flags .exit)) (now (words .exit)) (now (limits .exit)) (now (deltas .exit)) (now (values .exit)))
+        (wrote home value (partsOf
+        (held (now (octets .entry)) (now (flags .entry)) (now (words .entry)) (now (limits .entry)) (now (deltas .entry))
+        (now (values .entry))))) ⌝ }
+{
+    let was = node_at(octets, flags);
+    match home {
+        Home::Constant(_) => {}
+        Home::Window(row, width, sub) => {
+            machines::write(words, row, width, sub, value, was.in_fault());
+        }
+        Home::InputChannel(index, n) => {
+            inputs::write_at(octets, limits, deltas, values, n, index, value);
+        }
+        Home::OutputChannel(index, n) => {
+            outputs::write_at(flags, values, n, index, value, was.in_fault());
+        }
+        Home::Sources => {}
+        Home::Device(index) => {
+            let next = was.written(index, value);
+            set_node(octets, flags, next);
+        }
+    }
 }

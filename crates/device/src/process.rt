@@ -1,64 +1,65 @@
-// sample and drive.
-use crate::Answer;
-use crate::Device;
-use crate::SampleAnswer;
+// sample and drive, in place.
+use crate::SampleNumber;
+use crate::store::lend;
+use crate::store::node_at;
 use channels::inputs::sample_all;
 use channels::outputs;
 use lines::Row;
+use lines::machines;
 use profile::refusals::drive_refusal;
 use profile::refusals::sample_refusal;
 ghost use Rattle.profile.specs.Calls.{Call};
-ghost use Rattle.profile.specs.Lists.{Outcome};
-ghost use Rattle.device.specs.View.{machinesOf, sampleAnswer, driveAnswer};
-ghost use Rattle.device.specs.Promises.{Reported};
+ghost use Rattle.device.specs.View.{held, sampleNumber, driveNumber};
+ghost use Rattle.device.specs.Promises.{Ensured, EnsuredOf, Reported};
 
-impl Device {
-    pub fn sample(mut self, digital: &[u8], analogue: &[i16], events: &mut [u8]) -> SampleAnswer
-        ensures { λ r. ⌜ Outcome (machinesOf self) (Call.sample (now (digital .entry)) (now (analogue .entry)) (now (events .entry)))
-            (sampleAnswer r (now (events .exit))) (machinesOf (r .device)) ⌝ }
-    {
-        let refused = sample_refusal(digital.len(), analogue.len(), events.len());
-        if refused != 0 {
-            return SampleAnswer {
-                number: refused,
-                events: 0,
-                device: self,
-            };
-        }
-        let node = self.node;
-        let operational = node.is_operational();
-        let lines = self.lines;
-        let sampled = lines.sampled(Row::load(digital));
-        let settled = sampled.lines;
-        reported(sampled.edges, operational & node.digital).store(events);
-        let inputs = self.inputs;
-        let met = sample_all(inputs, analogue, operational & node.analogue);
-        let channels = met.channels;
-        self.lines = settled;
-        self.inputs = channels;
-        SampleAnswer {
-            number: 0,
-            events: met.events,
-            device: self,
-        }
-    }
-
-    pub fn drive(self, lines: &mut [u8], channels: &mut [i16]) -> Answer
-        ensures { λ r. ⌜ Outcome (machinesOf self) (Call.drive (now (lines .entry)) (now (channels .entry)))
-            (driveAnswer r (now (lines .exit)) (now (channels .exit))) (machinesOf (r .device)) ⌝ }
-    {
-        let refused = drive_refusal(lines.len(), channels.len());
-        if refused == 0 {
-            let rows = self.lines;
-            rows.drive(lines);
-            let outputs = self.outputs;
-            outputs::drive(outputs, channels);
-        }
-        Answer {
+pub fn sample(
+    octets: &mut [u8; 21],
+    flags: &[bool; 12],
+    words: &mut [u64; 28],
+    limits: &[i32; 32],
+    deltas: &[u32; 48],
+    values: &mut [i16; 56],
+    digital: &[u8],
+    analogue: &[i16],
+    events: &mut [u8],
+) -> SampleNumber
+    ensures { λ r. ⌜ Ensured
+        (held (now (octets .entry)) (now (flags .entry)) (now (words .entry)) (now (limits .entry)) (now (deltas .entry))
+        (now (values .entry)))
+        (Call.sample (now (digital .entry)) (now (analogue .entry)) (now (events .entry))) (sampleNumber r (now (events .exit)))
+        (held (now (octets .exit)) (now (flags .entry)) (now (words .exit)) (now (limits .entry)) (now (deltas .entry))
+        (now (values .exit))) ⌝ }
+{
+    lend(octets, flags, words, values);
+    let refused = sample_refusal(digital.len(), analogue.len(), events.len());
+    if refused != 0 {
+        return SampleNumber {
             number: refused,
-            device: self,
-        }
+            events: 0,
+        };
     }
+    let node = node_at(octets, flags);
+    let operational = node.is_operational();
+    let edges = machines::sample(words, Row::load(digital));
+    reported(edges, operational & node.digital).store(events);
+    let on = operational & node.analogue;
+    let met = sample_all(octets, limits, deltas, values, analogue, on);
+    SampleNumber {
+        number: 0,
+        events: met,
+    }
+}
+
+pub fn drive(words: &[u64; 28], values: &[i16; 56], lines: &mut [u8], channels: &mut [i16]) -> u32
+    ensures { λ r. ⌜ EnsuredOf (now (words .entry)) (now (values .entry))
+        (Call.drive (now (lines .entry)) (now (channels .entry))) (driveNumber r (now (lines .exit)) (now (channels .exit))) ⌝ }
+{
+    let refused = drive_refusal(lines.len(), channels.len());
+    if refused == 0 {
+        machines::drive(words, lines);
+        outputs::drive(values, channels);
+    }
+    refused
 }
 
 // Edges are events while the node is operational and 6005 is 1.

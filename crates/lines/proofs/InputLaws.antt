@@ -5,10 +5,10 @@ use mathlib.Core.Bool.{Bool, true, false, not, cond, _&&_, _||_, Bool·beq}
 use mathlib.Core.List.{List}
 use Prim.Native.Nat.{ℕ, _+_, _*_, _<_}
 use native.Mathlib.Omega.{arith}
-use lib.Dec.{eqb, leb}
+use lib.Dec.{leb}
 use borrow.Author.Tests.{leb-false}
 use Rattle.profile.specs.Bits.{bitAt, bit, flip}
-use Rattle.profile.specs.DigitalInput.{InputLine, settle, sampleLine, edge}
+use Rattle.profile.specs.InputLine.{InputLine, settle, sampleLine, edge}
 use Rattle.profile.proofs.BitLaws.{gather-bits}
 use Rattle.lines.specs.declared.Row.{Row}
 use Rattle.lines.specs.View.{lineAt, rowAt, inputAt, outputAt}
@@ -36,7 +36,15 @@ Steps m s f on c0 c1 =
 
 steps : (s f on c0 c1 p any lh hl : Bool)
     → Steps
-    (sampleLine s (record { polarity = p; filter = on; anyChange = any; lowToHigh = lh; highToLow = hl; settled = f; count = bit c0 + 2 * bit c1 }))
+    (sampleLine s (record {
+      polarity = p;
+      filter = on;
+      anyChange = any;
+      lowToHigh = lh;
+      highToLow = hl;
+      settled = f;
+      count = bit c0 + 2 * bit c1;
+    }))
     s f on c0 c1
 unfolding sampleLine bitAt
 steps true true false c0 c1 p any lh hl = (refl, refl, refl)
@@ -65,6 +73,7 @@ pub settles : {words o0 o12 out : List ℕ} {s f on c0 c1 differs both changes c
 unfolding rowSet inputAt
 settles {words} {s = s} hf hon h0 hd h1 hb hc hn hh hf′ l0 h0′ l12 l13 =
     record {
+      count = l13 .count;
       lines = λ a i ha h.
           let m = steps (rowAt s i) (lineAt words 0 i) (lineAt words 2 i) (lineAt words 12 i) (lineAt words 13 i)
           (lineAt words 1 i) (lineAt words 3 i) (lineAt words 4 i) (lineAt words 5 i)
@@ -134,13 +143,28 @@ samples {words} {out} {s} o ha hf hc hp hr hl hh hd hn he hx =
     record {
       inputs = λ i h.
           input-of out i (λ a. settledAt words s a i) (λ a ha. o .lines a i ha h)
-          ∙ ap (λ (n : ℕ). settle (new i .settled) n (inputAt words i)) (two-bits (new i .count) (count-small (rowAt s i) (inputAt words i)))
+          ∙ ap (λ (n : ℕ). settle (new i .settled) n (inputAt words i))
+          (two-bits (new i .count) (count-small (rowAt s i) (inputAt words i)))
           ∙ same-settings (rowAt s i) (inputAt words i);
       outputs = λ i h. output-of out i (λ a. settledAt words s a i) (λ a ha. o .lines a i ha h);
       edges = λ i h.
-          rw (hx .at i, he .at i, hd .at i, hr .at i, hc .at i, hf .at i h, hp .at i h, hl .at i h, hh .at i h, hn .at i h, ha .at i h, o .lines 0 i (omega arith) h)
+          rw (
+            hx .at i,
+            he .at i,
+            hd .at i,
+            hr .at i,
+            hc .at i,
+            hf .at i h,
+            hp .at i h,
+            hl .at i h,
+            hh .at i h,
+            hn .at i h,
+            ha .at i h,
+            o .lines 0 i (omega arith) h,
+          )
           (ap
-          (λ (p : Bool). flip (lineAt words 0 i) (new i .settled) && (lineAt words 3 i || cond (flip (new i .settled) p) (lineAt words 4 i) (lineAt words 5 i)))
+          (λ (p : Bool). flip (lineAt words 0 i) (new i .settled) &&
+          (lineAt words 3 i || cond (flip (new i .settled) p) (lineAt words 4 i) (lineAt words 5 i)))
           (ap (λ (m : InputLine). m .polarity) (same-settings (rowAt s i) (inputAt words i))));
     }
   where

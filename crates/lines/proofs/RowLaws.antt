@@ -143,8 +143,10 @@ pub row-write : (words : List ℕ) (a : ℕ) (r : Row) → length words ≡ 28 �
 unfolding rowSet rowAt
 row-write words a r len ha =
     record {
+      count = length-set (set words (2 * a) (r .low)) _ _ ∙ length-set words _ _ ∙ len;
       lines = λ a′ i ha′ hi.
-          word-write (set words (2 * a) (r .low)) (2 * a + 1) (r .high) a′ i (eqb (2 * a′ + i / 64) (2 * a + 1)) (rw length-set (omega arith)) refl
+          word-write (set words (2 * a) (r .low)) (2 * a + 1) (r .high) a′ i (eqb (2 * a′ + i / 64) (2 * a + 1))
+          (rw length-set (omega arith)) refl
           ∙ ap (cond (eqb (2 * a′ + i / 64) (2 * a + 1)) (bitAt (r .high) (i % 64)))
           (word-write words (2 * a) (r .low) a′ i (eqb (2 * a′ + i / 64) (2 * a)) (omega arith) refl)
           ∙ set-by words r a a′ i (eqb (2 * a′ + i / 64) (2 * a + 1)) (eqb (2 * a′ + i / 64) (2 * a)) (eqb a′ a) ha hi refl refl refl;
@@ -153,7 +155,7 @@ row-write words a r len ha =
 -- ---- a masked write through a window
 
 module _ (words : List ℕ) (a m w s v : ℕ) (narrow : w ≤ 32) where
-  abbrev pub gated : ℕ
+  abbrev gated : ℕ
   gated = pickWord 32 (window words m w s) v (window words a w s)
 
   masked-by : (a′ i : ℕ) (t u : Bool) → eqb a′ a ≡ t → inside w s i ≡ u
@@ -167,6 +169,14 @@ module _ (words : List ℕ) (a m w s v : ℕ) (narrow : w ≤ 32) where
   masked-by a′ i true false ht hu = refl
   masked-by a′ i false u ht hu = refl
 
-  pub masked-write : {out : List ℕ} → Lined out (written words a w s gated) → Lined out (masked words a m w s v)
+  pub masked-write : {out : List ℕ} {kept mask : ℕ} → kept ≡ window words a w s → mask ≡ window words m w s
+      → Lined out (written words a w s (pickWord 32 mask v kept)) → Lined out (masked words a m w s v)
   unfolding written masked
-  masked-write o = record { lines = λ a′ i ha hi. o .lines a′ i ha hi ∙ masked-by a′ i (eqb a′ a) (inside w s i) refl refl }
+  masked-write ek em o =
+      record {
+        count = o .count;
+        lines = λ a′ i ha hi.
+            o .lines a′ i ha hi
+            ∙ ap₂ (λ (x y : ℕ). cond (eqb a′ a && inside w s i) (bitAt (pickWord 32 x v y) (bitOf w s i)) (lineAt words a′ i)) em ek
+            ∙ masked-by a′ i (eqb a′ a) (inside w s i) refl refl;
+      }

@@ -7,16 +7,17 @@ use Prim.Native.Nat.{ℕ, zero, suc, _+_, _-_, _*_, _/_, _%_, _^_, _≤_, _<_}
 use native.Mathlib.Nat.{mod-lt, mod-eq-of-lt, mul-add, mul-assoc, mul-one, one-mul, mul-zero, mul-le-mul-left, div-add-mod, zero-lt-suc}
 use native.Mathlib.Omega.{arith}
 use lib.Dec.{eqb, leb, ltb}
-use lib.ListN.{length, getD, set}
+use lib.ListN.{length, getD, set, length-set}
 use lib.Seq.{getD-set-same, getD-set-other}
 use lib.Pow.{pow-pos, pow-lt}
-use lib.Bits.{bitAnd, bitOr}
+use lib.Bits.{bitAnd, bitOr, and-mask}
 use mir.Syntax.{w64}
 use mir.Val.{Fits}
 use borrow.Author.Tests.{lt-ltb, le-ltb, le-leb, lt-leb, eq-eqb, ltb-true, ltb-false, leb-true, leb-false, eqb-true, eqb-false}
 use Rattle.profile.specs.Bits.{bitAt, gather}
 use Rattle.profile.specs.Entries.{firstLine, inside, bitOf}
-use Rattle.profile.proofs.BitLaws.{bit-and, bit-or, bit-not, bit-ones, bit-small, bit-shr, bit-shl, bit-mod, gather-bit, gather-bits, gather-cong, gather-small}
+use Rattle.profile.proofs.BitLaws.{bit-and, bit-or, bit-not, bit-ones, bit-small, bit-shr, bit-shl, bit-mod}
+use Rattle.profile.proofs.BitLaws.{gather-bit, gather-bits, gather-cong, gather-small}
 use Rattle.lines.specs.View.{lineAt, window}
 use Rattle.lines.specs.Promises.{Covers, Lined, written}
 
@@ -76,18 +77,23 @@ size w h = ap (λ (x : ℕ). x % 2 ^ 64) (one-mul (2 ^ w)) ∙ mod-eq-of-lt (pow
 pub from-bits : (w v : ℕ) (f : ℕ → Bool) → v < 2 ^ w → ((b : ℕ) → b < w → bitAt v b ≡ f b) → v ≡ gather w f
 from-bits w v f h e = sym (gather-bits w v h) ∙ gather-cong w (bitAt v) f e
 
-pub window-read : (words : List ℕ) (a w s : ℕ) → Covers a w s
-    → getD words (2 * a + firstLine w s / 64) 0 / 2 ^ (firstLine w s % 64) % 2 ^ w ≡ window words a w s
+-- what the code reads from bit k on of word n
+pub window-read : (words : List ℕ) (a w s n k : ℕ) → Covers a w s → n ≡ 2 * a + firstLine w s / 64 → k ≡ firstLine w s % 64
+    → bitAnd (getD words n 0 / 2 ^ k) (1 * 2 ^ w % 2 ^ 64 - 1) ≡ window words a w s
 unfolding lineAt window
-window-read words a w s c =
-    from-bits w _ (λ b. lineAt words a (firstLine w s + b)) (mod-lt _ (pow-pos w))
+window-read words a w s n k c en ek =
+    rw (size w (c .width .narrow), and-mask, en, ek)
+    (from-bits w _ (λ b. lineAt words a (firstLine w s + b)) (mod-lt _ (pow-pos w))
     (λ b h.
     bit-mod _ w b h ∙ bit-shr _ (firstLine w s % 64) b
-    ∙ ap₂ (λ (x y : ℕ). bitAt (getD words (2 * a + x) 0) y) (omega (arith, bounds c .fits)) (omega (arith, bounds c .fits)))
+    ∙ ap₂ (λ (x y : ℕ). bitAt (getD words (2 * a + x) 0) y) (omega (arith, bounds c .fits)) (omega (arith, bounds c .fits))))
 
 pub window-small : (words : List ℕ) (a w s : ℕ) → window words a w s < 2 ^ w
 unfolding window
 window-small words a w s = gather-small w _
+
+pub small-as : (words : List ℕ) (a w s : ℕ) {v : ℕ} → v ≡ window words a w s → v < 2 ^ w
+small-as words a w s e = rw e (window-small words a w s)
 
 -- ---- a line inside a window
 
@@ -141,12 +147,13 @@ mixed v w d old true true h e = ap (λ (x : Bool). x || bitAt v d) (and-false ol
 mixed v w d old true false h e = ap₂ (λ (x y : Bool). x || y) (and-true old) (bit-small w d h e) ∙ or-false old
 mixed v w d old false u h e = ap (λ (x : Bool). x || false) (and-true old) ∙ or-false old
 
-patched-bit : (old v w k j : ℕ) → old < 2 ^ 64 → v < 2 ^ w → w ≤ 32 → j < 64
+patched-bit : (old v w k j : ℕ) → v < 2 ^ w → w ≤ 32 → j < 64
     → bitAt (patched old v w k) j ≡ cond (leb k j && ltb (j - k) w) (bitAt v (j - k)) (bitAt old j)
-patched-bit old v w k j ho hv hw hj =
+patched-bit old v w k j hv hw hj =
     bit-or _ _ j
     ∙ ap₂ _||_
-    (bit-and old _ j ∙ ap (λ (x : Bool). bitAt old j && x) (bit-not 64 (maskOf w k) j (mod-lt _ (pow-pos 64)) hj ∙ ap not (mask-bit w k j hw hj)))
+    (bit-and old _ j ∙ ap (λ (x : Bool). bitAt old j && x)
+    (bit-not 64 (maskOf w k) j (mod-lt _ (pow-pos 64)) hj ∙ ap not (mask-bit w k j hw hj)))
     (bit-mod _ 64 j hj ∙ bit-shl v k j)
     ∙ mixed v w (j - k) (bitAt old j) (leb k j) (ltb (j - k) w) hv (leb-is w (j - k) (ltb (j - k) w) refl)
 
@@ -166,10 +173,10 @@ tests p w i false u q f ht hu =
     sym (ap (λ (z : Bool). z && ltb i (p + w)) (lt-leb p i (omega arith)))
 
 -- in the window's own word
-here : (old v p w i : ℕ) → old < 2 ^ 64 → v < 2 ^ w → w ≤ 32 → p % 64 + w ≤ 64 → i / 64 ≡ p / 64
+here : (old v p w i : ℕ) → v < 2 ^ w → w ≤ 32 → p % 64 + w ≤ 64 → i / 64 ≡ p / 64
     → bitAt (patched old v w (p % 64)) (i % 64) ≡ cond (leb p i && ltb i (p + w)) (bitAt v (i - p)) (bitAt old (i % 64))
-here old v p w i ho hv hw f q =
-    patched-bit old v w (p % 64) (i % 64) ho hv hw (mod-lt i (zero-lt-suc 63))
+here old v p w i hv hw f q =
+    patched-bit old v w (p % 64) (i % 64) hv hw (mod-lt i (zero-lt-suc 63))
     ∙ ap₂ (λ (t : Bool) (d : ℕ). cond t (bitAt v d) (bitAt old (i % 64)))
     (tests p w i (leb (p % 64) (i % 64)) (ltb (i % 64 - p % 64) w) q f refl refl)
     (omega arith)
@@ -184,7 +191,7 @@ elsewhere {a} {w} {s} a′ i true true p ne ht hu =
 elsewhere a′ i true false p ne ht hu = refl
 elsewhere a′ i false u p ne ht hu = refl
 
-module _ (words : List ℕ) (a w s v : ℕ) (c : Covers a w s) (hv : v < 2 ^ w) (held : Held words) where
+module _ (words : List ℕ) (a w s v : ℕ) (c : Covers a w s) (hv : v < 2 ^ w) (count : length words ≡ 28) where
   write-by : (a′ i : ℕ) (t : Bool) → i < 128 → eqb (2 * a′ + i / 64) (2 * a + firstLine w s / 64) ≡ t
       → lineAt
       (set words (2 * a + firstLine w s / 64) (patched (getD words (2 * a + firstLine w s / 64) 0) v w (firstLine w s % 64)))
@@ -196,9 +203,10 @@ module _ (words : List ℕ) (a w s v : ℕ) (c : Covers a w s) (hv : v < 2 ^ w) 
       let n : 2 * a′ + i / 64 ≡ 2 * a + firstLine w s / 64 = eqb-true (2 * a′ + i / 64) (2 * a + firstLine w s / 64) e in
       let same : a′ ≡ a = omega arith in
       let word : i / 64 ≡ firstLine w s / 64 = omega arith in
-      ap (λ (x : ℕ). bitAt x (i % 64)) (rw n (getD-set-same words _ _ 0 (omega (arith, held .count))))
-      ∙ here _ v (firstLine w s) w i (held .each _ .fits) hv (p .narrow) (p .fits) word
-      ∙ ap₂ (λ (t : Bool) (x : ℕ). cond (t && (leb (firstLine w s) i && ltb i (firstLine w s + w))) (bitAt v (bitOf w s i)) (bitAt (getD words x 0) (i % 64)))
+      ap (λ (x : ℕ). bitAt x (i % 64)) (rw n (getD-set-same words _ _ 0 (omega (arith, count))))
+      ∙ here _ v (firstLine w s) w i hv (p .narrow) (p .fits) word
+      ∙ ap₂ (λ (t : Bool) (x : ℕ). cond (t && (leb (firstLine w s) i && ltb i (firstLine w s + w))) (bitAt v (bitOf w s i))
+      (bitAt (getD words x 0) (i % 64)))
       (sym (eq-eqb a′ a same)) (sym n)
   write-by a′ i false hi e =
       let ne : (2 * a′ + i / 64 ≡ 2 * a + firstLine w s / 64) → ⊥ = eqb-false (2 * a′ + i / 64) (2 * a + firstLine w s / 64) e in
@@ -206,7 +214,12 @@ module _ (words : List ℕ) (a w s v : ℕ) (c : Covers a w s) (hv : v < 2 ^ w) 
       ∙ ap (λ (t : Bool). cond t (bitAt v (bitOf w s i)) (bitAt (getD words (2 * a′ + i / 64) 0) (i % 64)))
       (sym (elsewhere a′ i (eqb a′ a) (inside w s i) (bounds c) ne refl refl))
 
-  pub window-write : Lined
-      (set words (2 * a + firstLine w s / 64) (patched (getD words (2 * a + firstLine w s / 64) 0) v w (firstLine w s % 64)))
-      (written words a w s v)
-  window-write = record { lines = λ a′ i ha hi. write-by a′ i (eqb (2 * a′ + i / 64) (2 * a + firstLine w s / 64)) hi refl }
+  -- what the code stores in word n, from bit k on
+  pub window-write : (n k : ℕ) → n ≡ 2 * a + firstLine w s / 64 → k ≡ firstLine w s % 64
+      → Lined (set words n (patched (getD words n 0) v w k)) (written words a w s v)
+  window-write n k en ek =
+      rw (en, ek)
+      (record {
+        count = length-set words _ _ ∙ count;
+        lines = λ a′ i ha hi. write-by a′ i (eqb (2 * a′ + i / 64) (2 * a + firstLine w s / 64)) hi refl;
+      })

@@ -5,11 +5,12 @@ use mathlib.Core.Bool.{Bool, cond, _&&_}
 use mathlib.Core.List.{List}
 use Prim.Native.Nat.{ℕ, _+_, _*_, _/_, _≤_, _<_}
 use lib.Dec.{eqb, ltb, leb}
+use lib.ListN.{length}
 use Rattle.profile.specs.Bits.{bitAt, flip, gather}
 use Rattle.profile.specs.Bytes.{bytes, lineBit}
 use Rattle.profile.specs.Entries.{firstLine, inside, bitOf}
-use Rattle.profile.specs.DigitalInput.{InputLine, freshInputLine, sampleLine, edge, writeInputLine}
-use Rattle.profile.specs.DigitalOutput.{OutputLine, freshOutputLine, writeOutputLine, moveOutputLine}
+use Rattle.profile.specs.InputLine.{freshInputLine, sampleLine, edge, writeInputLine}
+use Rattle.profile.specs.OutputLine.{freshOutputLine, writeOutputLine, moveOutputLine}
 use Rattle.lines.specs.declared.Row.{Row}
 use Rattle.lines.specs.View.{lineAt, rowAt, inputAt, outputAt, readAt}
 
@@ -27,8 +28,9 @@ pub record Covers (a w s : ℕ) : Type 0 where
   pub first : 1 ≤ s
   pub last : w * s ≤ 128
 
--- line i of row a′ is f a′ i
+-- fourteen rows, and line i of row a′ is f a′ i
 pub record Lined (words : List ℕ) (f : ℕ → ℕ → Bool) : Type 0 where
+  pub count : length words ≡ 28
   pub lines : (a i : ℕ) → a < 14 → i < 128 → lineAt words a i ≡ f a i
 
 -- line i of row a′ after v is written through the window (w, s) of row a
@@ -87,7 +89,8 @@ pub record Written (fault : Bool) (words : List ℕ) (row w s v : ℕ) (out : Li
   pub inputs : (i : ℕ) → i < 128
       → inputAt out i ≡ cond (ltb row 6 && inside w s i) (writeInputLine row (bitAt v (bitOf w s i)) (inputAt words i)) (inputAt words i)
   pub outputs : (i : ℕ) → i < 128
-      → outputAt out i ≡ cond (leb 6 row && inside w s i) (writeOutputLine fault row (bitAt v (bitOf w s i)) (outputAt words i)) (outputAt words i)
+      → outputAt out i ≡ cond (leb 6 row && inside w s i) (writeOutputLine fault row (bitAt v (bitOf w s i)) (outputAt words i))
+      (outputAt words i)
 
 -- the row s was sampled, with these edges
 pub record Sampled (words : List ℕ) (s events : Row) (out : List ℕ) : Type 0 where

@@ -23,17 +23,20 @@ pub sub-none : (part : List ℕ) → length part ≡ 0 → 0 ≡ subIndexOf part
 sub-none [] e = refl
 sub-none (x ∷ part) e = absurd (omega (arith, e))
 
-pub sub-some : (part digits : List ℕ) (r : ℕ) → (length part ≡ 0 → ⊥) → digits ≡ drop 1 part → r ≡ shortNumber 2 digits → r ≡ subIndexOf part
+pub sub-some : (part digits : List ℕ) (r : ℕ) → (length part ≡ 0 → ⊥) → digits ≡ drop 1 part → r ≡ shortNumber 2 digits
+    → r ≡ subIndexOf part
 sub-some [] digits r h d e = absurd (h refl)
 sub-some (x ∷ part) digits r h d e = e ∙ ap (shortNumber 2) d
 
 -- the index and the sub-index of a word
-module _ (w rest front : List ℕ) (n index : ℕ) (colon : InFront false 58 w n) (in-front : front ≡ take n w) (number : index ≡ shortNumber 4 front) where
+module _ (w rest front : List ℕ) (n index : ℕ) (colon : InFront false 58 w n) (in-front : front ≡ take n w)
+    (number : index ≡ shortNumber 4 front) where
   index-is : index ≡ indexOf w
   index-is = number ∙ ap (shortNumber 4) (in-front ∙ ap (λ k. take k w) (colon .is))
 
   abbrev m·sub : Meaning
-  m·sub = cond (ltb 255 (subIndexOf (drop (run false 58 w) w))) (unknown Ex.Byte) (entryMeaning (indexOf w) (subIndexOf (drop (run false 58 w) w)) (wordsOf rest))
+  m·sub = cond (ltb 255 (subIndexOf (drop (run false 58 w) w))) (unknown Ex.Byte)
+      (entryMeaning (indexOf w) (subIndexOf (drop (run false 58 w) w)) (wordsOf rest))
 
   pub access-call : 65535 < index → accessMeaning w (wordsOf rest) ≡ unknown Ex.Call
   unfolding accessMeaning
@@ -48,13 +51,17 @@ module _ (w rest front : List ℕ) (n index : ℕ) (colon : InFront false 58 w n
     access-on = no (ltb 65535 (indexOf w)) (unknown Ex.Call) m·sub (le-ltb 65535 (indexOf w) (subst (λ k. k ≤ 65535) index-is index-fits))
 
     pub access-byte : 255 < sub → accessMeaning w (wordsOf rest) ≡ unknown Ex.Byte
-    access-byte h = access-on ∙ yes (ltb 255 (subIndexOf (drop (run false 58 w) w))) (unknown Ex.Byte) (entryMeaning (indexOf w) (subIndexOf (drop (run false 58 w) w)) (wordsOf rest)) (lt-ltb 255 (subIndexOf (drop (run false 58 w) w)) (subst (λ k. 255 < k) sub-is h))
+    access-byte h = access-on ∙ yes (ltb 255 (subIndexOf (drop (run false 58 w) w))) (unknown Ex.Byte)
+        (entryMeaning (indexOf w) (subIndexOf (drop (run false 58 w) w)) (wordsOf rest))
+        (lt-ltb 255 (subIndexOf (drop (run false 58 w) w)) (subst (λ k. 255 < k) sub-is h))
 
     module _ (sub-fits : sub ≤ 255) (b : Bool) (is : b ≡ isBlank rest) where
       access-entry : accessMeaning w (wordsOf rest) ≡ entryMeaning index sub (wordsOf rest)
       access-entry =
           access-on
-          ∙ no (ltb 255 (subIndexOf (drop (run false 58 w) w))) (unknown Ex.Byte) (entryMeaning (indexOf w) (subIndexOf (drop (run false 58 w) w)) (wordsOf rest)) (le-ltb 255 (subIndexOf (drop (run false 58 w) w)) (subst (λ k. k ≤ 255) sub-is sub-fits))
+          ∙ no (ltb 255 (subIndexOf (drop (run false 58 w) w))) (unknown Ex.Byte)
+          (entryMeaning (indexOf w) (subIndexOf (drop (run false 58 w) w)) (wordsOf rest))
+          (le-ltb 255 (subIndexOf (drop (run false 58 w) w)) (subst (λ k. k ≤ 255) sub-is sub-fits))
           ∙ ap (λ k. entryMeaning k (subIndexOf (drop (run false 58 w) w)) (wordsOf rest)) (sym index-is)
           ∙ ap (λ k. entryMeaning index k (wordsOf rest)) (sym sub-is)
 
@@ -62,26 +69,32 @@ module _ (w rest front : List ℕ) (n index : ℕ) (colon : InFront false 58 w n
       access-read e = access-entry ∙ ap (entryMeaning index sub) (words-none rest (blank rest b is e))
 
       module _ (e : b ≡ false) (mark : List ℕ) (first : mark ≡ firstWord rest) where
-        access-mark : accessMeaning w (wordsOf rest) ≡ cond (isWord mark (ascii "=")) (writeMeaning index sub (itemsOf byteItem 512 (wordsOf (afterWord rest)))) (unknown Ex.Data)
+        access-mark : accessMeaning w (wordsOf rest) ≡ cond (isWord mark (ascii "="))
+            (writeMeaning index sub (itemsOf byteItem 512 (wordsOf (afterWord rest)))) (unknown Ex.Data)
         access-mark =
             access-entry
             ∙ ap (entryMeaning index sub) (words-more rest (not-blank rest b is e))
-            ∙ ap (λ (l : List ℕ). cond (isWord l (ascii "=")) (writeMeaning index sub (itemsOf byteItem 512 (wordsOf (afterWord rest)))) (unknown Ex.Data)) (sym first)
+            ∙ ap (λ (l : List ℕ). cond (isWord l (ascii "=")) (writeMeaning index sub (itemsOf byteItem 512 (wordsOf (afterWord rest))))
+            (unknown Ex.Data)) (sym first)
 
         pub access-data : isWord mark (ascii "=") ≡ false → accessMeaning w (wordsOf rest) ≡ unknown Ex.Data
-        access-data j = access-mark ∙ no (isWord mark (ascii "=")) (writeMeaning index sub (itemsOf byteItem 512 (wordsOf (afterWord rest)))) (unknown Ex.Data) j
+        access-data j = access-mark ∙ no (isWord mark (ascii "="))
+            (writeMeaning index sub (itemsOf byteItem 512 (wordsOf (afterWord rest)))) (unknown Ex.Data) j
 
-        pub access-write : (after : List ℕ) → after ≡ afterWord rest → isWord mark (ascii "=") ≡ true → accessMeaning w (wordsOf rest) ≡ writeMeaning index sub (itemsOf byteItem 512 (wordsOf after))
+        pub access-write : (after : List ℕ) → after ≡ afterWord rest → isWord mark (ascii "=") ≡ true → accessMeaning w
+            (wordsOf rest) ≡ writeMeaning index sub (itemsOf byteItem 512 (wordsOf after))
         access-write after others j =
             access-mark
             ∙ yes (isWord mark (ascii "=")) (writeMeaning index sub (itemsOf byteItem 512 (wordsOf (afterWord rest)))) (unknown Ex.Data) j
             ∙ ap (λ (l : List ℕ). writeMeaning index sub (itemsOf byteItem 512 (wordsOf l))) (sym others)
 
 -- the first word of a line and the words after it
-module _ (line text word rest : List ℕ) (content : text ≡ contentOf line) (first : word ≡ firstWord text) (others : rest ≡ afterWord text) where
+module _ (line text word rest : List ℕ) (content : text ≡ contentOf line) (first : word ≡ firstWord text)
+    (others : rest ≡ afterWord text) where
   pub means-nothing : length word ≡ 0 → meaningOf line ≡ nothing
   unfolding meaningOf wordsMeaning
-  means-nothing e = ap (λ (l : List ℕ). wordsMeaning (wordsOf l)) (sym content) ∙ ap wordsMeaning (words-none text (sym (ap length first) ∙ e))
+  means-nothing e = ap (λ (l : List ℕ). wordsMeaning (wordsOf l)) (sym content) ∙ ap wordsMeaning
+      (words-none text (sym (ap length first) ∙ e))
 
   pub means : (length word ≡ 0 → ⊥) → meaningOf line ≡ wordsMeaning (word ∷ wordsOf rest)
   unfolding meaningOf

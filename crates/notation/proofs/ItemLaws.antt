@@ -6,13 +6,13 @@ use mathlib.Core.List.{List, [], _∷_, _++_, append-nil, append-assoc}
 use Prim.Native.Nat.{ℕ, zero, suc, _+_, _-_, _≤_, _<_}
 use native.Mathlib.Numerals.{add-one}
 use native.Mathlib.Omega.{arith}
-use lib.Dec.{eqb, ltb}
+use lib.Dec.{eqb}
 use lib.ListN.{length, take, drop, set, length-drop, length-set}
 use lib.Seq.{take-suc-set, drop-drop}
-use borrow.Author.Tests.{lt-ltb, le-ltb, eq-eqb, ne-eqb, eqb-true, eqb-false}
+use borrow.Author.Tests.{lt-ltb, le-ltb, eqb-true, eqb-false}
 use Rattle.notation.specs.declared.Expected.{Expected}
 use Rattle.notation.specs.declared.Expected.the-variants as Ex
-use Rattle.notation.specs.Words.{wordsOf, firstWord, afterWord, wordEnd, WordEnd, isWord}
+use Rattle.notation.specs.Words.{wordsOf, firstWord, afterWord, WordEnd, isWord}
 use Rattle.notation.specs.Items.{Item, Found, slash, isOver, withItem, itemsOf, InBuffer}
 use Rattle.notation.specs.Items.Found.{items, missing}
 use Rattle.notation.proofs.SplitLaws.{words-none, words-more}
@@ -60,14 +60,16 @@ module _ {A : Type 0} (k : Item A) where
   items-over zero (w ∷ ws) e = rw e
   items-over (suc n) (w ∷ ws) e = rw e
 
-  items-wrong : (n : ℕ) (w : List ℕ) (ws : List (List ℕ)) → isWord w slash ≡ false → k .most < k .number w → itemsOf k n (w ∷ ws) ≡ missing (k .expected)
+  items-wrong : (n : ℕ) (w : List ℕ) (ws : List (List ℕ)) → isWord w slash ≡ false → k .most < k .number w → itemsOf k n
+      (w ∷ ws) ≡ missing (k .expected)
   items-wrong zero w ws e h = rw (e, lt-ltb (k .most) (k .number w) h)
   items-wrong (suc n) w ws e h = rw (e, lt-ltb (k .most) (k .number w) h)
 
   items-full : (w : List ℕ) (ws : List (List ℕ)) → isWord w slash ≡ false → k .number w ≤ k .most → itemsOf k 0 (w ∷ ws) ≡ missing Ex.Fewer
   items-full w ws e h = rw (e, le-ltb (k .most) (k .number w) h)
 
-  items-more : (n : ℕ) (w : List ℕ) (ws : List (List ℕ)) → isWord w slash ≡ false → k .number w ≤ k .most → itemsOf k (suc n) (w ∷ ws) ≡ withItem (k .value (k .number w)) (itemsOf k n ws)
+  items-more : (n : ℕ) (w : List ℕ) (ws : List (List ℕ)) → isWord w slash ≡ false → k .number w ≤ k .most → itemsOf k (suc n)
+      (w ∷ ws) ≡ withItem (k .value (k .number w)) (itemsOf k n ws)
   items-more n w ws e h = rw (e, le-ltb (k .most) (k .number w) h)
 
 -- the first `count` elements of the buffer are the items of the words before `at`
@@ -84,10 +86,13 @@ module _ {A : Type 0} (k : Item A) (line : List ℕ) (out : List A) where
     within = omega arith;
   }
 
-module _ {A : Type 0} (k : Item A) (line : List ℕ) (out : List A) (count at : ℕ) (so : Reading k line out count at) (rest : List ℕ) (is : rest ≡ drop at line) where
+module _ {A : Type 0} (k : Item A) (line : List ℕ) (out : List A) (count at : ℕ) (so : Reading k line out count at) (rest : List ℕ)
+    (is : rest ≡ drop at line) where
   pub reading-over : isOver (wordsOf rest) ≡ true → InBuffer k line out count at
   reading-over e = record {
-    found = so .found ∙ ap (onto (take count out)) (items-over k (length out - count) (wordsOf (drop at line)) (sym (ap (λ (l : List ℕ). isOver (wordsOf l)) is) ∙ e)) ∙ ap (λ (l : List A). items l (wordsOf (drop at line))) (append-nil (take count out));
+    found = so .found ∙ ap (onto (take count out))
+        (items-over k (length out - count) (wordsOf (drop at line)) (sym (ap (λ (l : List ℕ). isOver (wordsOf l)) is) ∙ e)) ∙ ap
+        (λ (l : List A). items l (wordsOf (drop at line))) (append-nil (take count out));
     room = so .room;
     within = so .within;
   }
@@ -95,30 +100,36 @@ module _ {A : Type 0} (k : Item A) (line : List ℕ) (out : List A) (count at : 
   words-here : isOver (wordsOf rest) ≡ false → wordsOf (drop at line) ≡ firstWord rest ∷ wordsOf (afterWord rest)
   words-here e = sym (ap wordsOf is) ∙ words-more rest (not-over rest e)
 
-  pub reading-wrong : (n : ℕ) → isOver (wordsOf rest) ≡ false → n ≡ k .number (firstWord rest) → k .most < n → itemsOf k (length out) (wordsOf line) ≡ missing (k .expected)
+  pub reading-wrong : (n : ℕ) → isOver (wordsOf rest) ≡ false → n ≡ k .number (firstWord rest) → k .most < n → itemsOf k (length out)
+      (wordsOf line) ≡ missing (k .expected)
   reading-wrong n e p h =
       so .found
       ∙ ap (λ (ws : List (List ℕ)). onto (take count out) (itemsOf k (length out - count) ws)) (words-here e)
-      ∙ ap (onto (take count out)) (items-wrong k (length out - count) (firstWord rest) (wordsOf (afterWord rest)) (not-slash rest e) (subst (λ x. k .most < x) p h))
+      ∙ ap (onto (take count out))
+      (items-wrong k (length out - count) (firstWord rest) (wordsOf (afterWord rest)) (not-slash rest e) (subst (λ x. k .most < x) p h))
 
-  pub reading-full : (n : ℕ) → isOver (wordsOf rest) ≡ false → n ≡ k .number (firstWord rest) → n ≤ k .most → length out ≤ count → itemsOf k (length out) (wordsOf line) ≡ missing Ex.Fewer
+  pub reading-full : (n : ℕ) → isOver (wordsOf rest) ≡ false → n ≡ k .number (firstWord rest) → n ≤ k .most → length out ≤ count
+      → itemsOf k (length out) (wordsOf line) ≡ missing Ex.Fewer
   reading-full n e p h full =
       let none : length out - count ≡ 0 = omega arith in
       so .found
       ∙ ap (λ (ws : List (List ℕ)). onto (take count out) (itemsOf k (length out - count) ws)) (words-here e)
       ∙ ap (λ m. onto (take count out) (itemsOf k m (firstWord rest ∷ wordsOf (afterWord rest)))) none
-      ∙ ap (onto (take count out)) (items-full k (firstWord rest) (wordsOf (afterWord rest)) (not-slash rest e) (subst (λ x. x ≤ k .most) p h))
+      ∙ ap (onto (take count out))
+      (items-full k (firstWord rest) (wordsOf (afterWord rest)) (not-slash rest e) (subst (λ x. x ≤ k .most) p h))
 
   behind : (e : ℕ) → WordEnd rest e → wordsOf (afterWord rest) ≡ wordsOf (drop (at + e) line)
   unfolding afterWord
   behind e w = ap (λ m. wordsOf (drop m rest)) (sym (w .is)) ∙ ap (λ (l : List ℕ). wordsOf (drop e l)) is ∙ ap wordsOf (drop-drop e at line)
 
-  pub reading-more : (n e : ℕ) (v : A) → isOver (wordsOf rest) ≡ false → n ≡ k .number (firstWord rest) → n ≤ k .most → count < length out → v ≡ k .value n → WordEnd rest e →
+  pub reading-more : (n e : ℕ) (v : A) → isOver (wordsOf rest) ≡ false → n ≡ k .number (firstWord rest) → n ≤ k .most
+      → count < length out → v ≡ k .value n → WordEnd rest e →
       Reading k line (set out count v) (count + 1) (at + e)
   reading-more n e v o p h free q w =
       let left : length out - count ≡ suc (length out - (count + 1)) = omega arith in
       let same : length (set out count v) ≡ length out = length-set out count v in
-      let taken : take (count + 1) (set out count v) ≡ take count out ++ (v ∷ []) = ap (λ m. take m (set out count v)) (add-one count) ∙ take-suc-set out count v free in
+      let taken : take (count + 1) (set out count v) ≡ take count out ++ (v ∷ []) = ap (λ m. take m (set out count v)) (add-one count)
+      ∙ take-suc-set out count v free in
       let value : k .value (k .number (firstWord rest)) ≡ v = ap (k .value) (sym p) ∙ sym q in
       record {
         found =
@@ -126,7 +137,9 @@ module _ {A : Type 0} (k : Item A) (line : List ℕ) (out : List A) (count at : 
             ∙ so .found
             ∙ ap (λ (ws : List (List ℕ)). onto (take count out) (itemsOf k (length out - count) ws)) (words-here o)
             ∙ ap (λ m. onto (take count out) (itemsOf k m (firstWord rest ∷ wordsOf (afterWord rest)))) left
-            ∙ ap (onto (take count out)) (items-more k (length out - (count + 1)) (firstWord rest) (wordsOf (afterWord rest)) (not-slash rest o) (subst (λ x. x ≤ k .most) p h))
+            ∙ ap (onto (take count out))
+            (items-more k (length out - (count + 1)) (firstWord rest) (wordsOf (afterWord rest)) (not-slash rest o)
+            (subst (λ x. x ≤ k .most) p h))
             ∙ ap (λ (x : A). onto (take count out) (withItem x (itemsOf k (length out - (count + 1)) (wordsOf (afterWord rest))))) value
             ∙ onto-more (take count out) v (itemsOf k (length out - (count + 1)) (wordsOf (afterWord rest)))
             ∙ ap (λ (xs : List A). onto xs (itemsOf k (length out - (count + 1)) (wordsOf (afterWord rest)))) (sym taken)
@@ -146,8 +159,10 @@ module _ {A : Type 0} (f : Found A) (xs : List A) (more : List ℕ) (is : f ≡ 
 
 -- what was read into a buffer of n elements
 module _ {A : Type 0} (k : Item A) (line : List ℕ) (out : List A) (n : ℕ) (long : length out ≡ n) where
-  pub read-found : (count used : ℕ) (more : List ℕ) → InBuffer k line out count used → more ≡ drop used line → itemsOf k n (wordsOf line) ≡ items (take count out) (wordsOf more)
-  read-found count used more i e = ap (λ m. itemsOf k m (wordsOf line)) (sym long) ∙ i .found ∙ ap (λ (l : List ℕ). items (take count out) (wordsOf l)) (sym e)
+  pub read-found : (count used : ℕ) (more : List ℕ) → InBuffer k line out count used → more ≡ drop used line → itemsOf k n
+      (wordsOf line) ≡ items (take count out) (wordsOf more)
+  read-found count used more i e = ap (λ m. itemsOf k m (wordsOf line)) (sym long) ∙ i .found ∙ ap
+      (λ (l : List ℕ). items (take count out) (wordsOf l)) (sym e)
 
   pub read-missing : (e : Expected) → itemsOf k (length out) (wordsOf line) ≡ missing e → itemsOf k n (wordsOf line) ≡ missing e
   read-missing e i = ap (λ m. itemsOf k m (wordsOf line)) (sym long) ∙ i

@@ -2,11 +2,6 @@ pub mod RunLaws
 pub mod WordLaws
 pub mod SplitLaws
 pub mod NumberLaws
-pub mod PutLaws
-pub mod TextLaws
 pub mod ItemLaws
 pub mod MeaningLaws
 pub mod AccessLaws
-pub mod ReadBack
-pub mod AnswerLaws
-pub mod LengthLaws

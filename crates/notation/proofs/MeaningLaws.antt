@@ -1,25 +1,24 @@
 -- What a line means, by its first word and the words after it, as the reader finds them.
 -- Assumes nothing.
-use mathlib.Core.Path.{_≡_, refl, sym, ap, subst, _∙_}
+use mathlib.Core.Path.{_≡_, sym, ap, subst, _∙_}
 use mathlib.Core.Bool.{Bool, true, false, cond}
-use mathlib.Core.List.{List, [], _∷_}
+use mathlib.Core.List.{List}
 use Prim.Native.Nat.{ℕ, _≤_, _<_}
-use native.Mathlib.Omega.{arith}
-use lib.Dec.{eqb, ltb}
+use lib.Dec.{ltb}
 use lib.ListN.{length, replicate}
 use lib.IntN.{ℤ, pos}
 use borrow.Author.Tests.{lt-ltb, le-ltb, eqb-true, eqb-false}
 use Rattle.profile.specs.declared.Cause.{Cause}
 use Rattle.profile.specs.declared.Cause.the-variants.{Internal, Lost}
 use Rattle.profile.specs.Calls as Doc
-use Rattle.notation.specs.declared.Expected.{Expected}
 use Rattle.notation.specs.declared.Expected.the-variants as Ex
 use Rattle.notation.specs.declared.Call.{Call}
 use Rattle.notation.specs.Ascii.{ascii}
 use Rattle.notation.specs.Words.{wordsOf, firstWord, afterWord, isBlank, firstOf, othersOf, isWord}
 use Rattle.notation.specs.Numbers.{numberOf}
 use Rattle.notation.specs.Items.{byteItem, itemsOf}
-use Rattle.notation.specs.Meanings.{Meaning, small, atEnd, createMeaning, commandMeaning, namedMeaning, causeMeaning, faultMeaning, linesMeaning, driveMeaning}
+use Rattle.notation.specs.Meanings.{Meaning, small, atEnd, createMeaning, commandMeaning, namedMeaning, causeMeaning, faultMeaning}
+use Rattle.notation.specs.Meanings.{linesMeaning, driveMeaning}
 use Rattle.notation.specs.Meanings.Meaning.{unknown, create, call}
 use Rattle.notation.specs.Promises.{Says}
 use Rattle.notation.proofs.SplitLaws.{words-none, words-more, first-of, others-of}
@@ -31,7 +30,8 @@ pub no : {A : Type 0} (t : Bool) (a b : A) → t ≡ false → cond t a b ≡ b
 no t a b e = ap (λ (x : Bool). cond x a b) e
 
 -- an answer that says a meaning says an equal one
-pub says-as : {m n : Meaning} {r : Call} {payload bytes : List ℕ} {numbers : List ℤ} {events : List ℕ} → n ≡ m → Says m r payload bytes numbers events → Says n r payload bytes numbers events
+pub says-as : {m n : Meaning} {r : Call} {payload bytes : List ℕ} {numbers : List ℤ} {events : List ℕ} → n ≡ m
+    → Says m r payload bytes numbers events → Says n r payload bytes numbers events
 says-as e s = record { is = s .is ∙ sym e; fits = s .fits }
 
 -- only spaces are left, or a word
@@ -70,12 +70,15 @@ module _ (rest w : List ℕ) (n : ℕ) (number : n ≡ numberOf 10 w) (first : w
   unfolding commandMeaning
   command-small h =
       let ws = othersOf (wordsOf rest) in
-      small-no (firstOf (wordsOf rest)) (small (firstOf ws) (atEnd (call (Doc.Call.command (numberOf 10 (firstOf (wordsOf rest))) (numberOf 10 (firstOf ws)))) (othersOf ws))) n number-first h
+      small-no (firstOf (wordsOf rest))
+      (small (firstOf ws) (atEnd (call (Doc.Call.command (numberOf 10 (firstOf (wordsOf rest))) (numberOf 10 (firstOf ws))))
+      (othersOf ws))) n number-first h
 
   module _ (after : List ℕ) (others : after ≡ afterWord rest) (fits : n ≤ 255) where
     create-on : createMeaning (wordsOf rest) ≡ atEnd m·create (wordsOf after)
     unfolding createMeaning
-    create-on = small-yes (firstOf (wordsOf rest)) (atEnd m·create (othersOf (wordsOf rest))) n number-first fits ∙ ap (atEnd m·create) (sym (others-of rest after others))
+    create-on = small-yes (firstOf (wordsOf rest)) (atEnd m·create (othersOf (wordsOf rest))) n number-first fits ∙ ap (atEnd m·create)
+        (sym (others-of rest after others))
 
     pub create-more : (r : Bool) → r ≡ isBlank after → r ≡ false → createMeaning (wordsOf rest) ≡ unknown Ex.End
     create-more r is e = create-on ∙ goes-on after r is m·create e
@@ -89,14 +92,18 @@ module _ (rest w : List ℕ) (n : ℕ) (number : n ≡ numberOf 10 w) (first : w
       m·command = call (Doc.Call.command (numberOf 10 (firstOf (wordsOf rest))) (numberOf 10 (firstOf (othersOf (wordsOf rest)))))
 
       second : n2 ≡ numberOf 10 (firstOf (othersOf (wordsOf rest)))
-      second = number2 ∙ ap (numberOf 10) (first-of after w2 first2) ∙ ap (λ (ws : List (List ℕ)). numberOf 10 (firstOf ws)) (others-of rest after others)
+      second = number2 ∙ ap (numberOf 10) (first-of after w2 first2) ∙ ap (λ (ws : List (List ℕ)). numberOf 10 (firstOf ws))
+          (others-of rest after others)
 
-      command-on : commandMeaning (wordsOf rest) ≡ small (firstOf (othersOf (wordsOf rest))) (atEnd m·command (othersOf (othersOf (wordsOf rest))))
+      command-on : commandMeaning (wordsOf rest) ≡ small (firstOf (othersOf (wordsOf rest)))
+          (atEnd m·command (othersOf (othersOf (wordsOf rest))))
       unfolding commandMeaning
-      command-on = small-yes (firstOf (wordsOf rest)) (small (firstOf (othersOf (wordsOf rest))) (atEnd m·command (othersOf (othersOf (wordsOf rest))))) n number-first fits
+      command-on = small-yes (firstOf (wordsOf rest))
+          (small (firstOf (othersOf (wordsOf rest))) (atEnd m·command (othersOf (othersOf (wordsOf rest))))) n number-first fits
 
       pub command-small2 : 255 < n2 → commandMeaning (wordsOf rest) ≡ unknown Ex.Small
-      command-small2 h = command-on ∙ small-no (firstOf (othersOf (wordsOf rest))) (atEnd m·command (othersOf (othersOf (wordsOf rest)))) n2 second h
+      command-small2 h = command-on ∙ small-no (firstOf (othersOf (wordsOf rest)))
+          (atEnd m·command (othersOf (othersOf (wordsOf rest)))) n2 second h
 
       module _ (last : List ℕ) (others2 : last ≡ afterWord after) (fits2 : n2 ≤ 255) (r : Bool) (is : r ≡ isBlank last) where
         command-last : commandMeaning (wordsOf rest) ≡ atEnd m·command (wordsOf last)
@@ -138,7 +145,8 @@ module _ (code : ℕ) (rest : List ℕ) (b : Bool) (is-blank : b ≡ isBlank res
 
     module _ (after : List ℕ) (others : after ≡ afterWord rest) (fits : n ≤ 255) (r : Bool) (is : r ≡ isBlank after) where
       named-last : namedMeaning code (wordsOf rest) ≡ atEnd m·named (wordsOf after)
-      named-last = named-on ∙ small-yes (firstWord rest) (atEnd m·named (wordsOf (afterWord rest))) n number-is fits ∙ ap (λ (l : List ℕ). atEnd m·named (wordsOf l)) (sym others)
+      named-last = named-on ∙ small-yes (firstWord rest) (atEnd m·named (wordsOf (afterWord rest))) n number-is fits ∙ ap
+          (λ (l : List ℕ). atEnd m·named (wordsOf l)) (sym others)
 
       pub named-more : r ≡ false → namedMeaning code (wordsOf rest) ≡ unknown Ex.End
       named-more e = named-last ∙ goes-on after r is m·named e
@@ -147,10 +155,12 @@ module _ (code : ℕ) (rest : List ℕ) (b : Bool) (is-blank : b ≡ isBlank res
       named-is e = named-last ∙ ends after r is m·named e ∙ ap (λ k. call (Doc.Call.command code k)) (sym number-is)
 
 -- a cause
-module _ (f : Cause → Doc.Call) (rest w after : List ℕ) (first : w ≡ firstWord rest) (others : after ≡ afterWord rest) (r : Bool) (is : r ≡ isBlank after) where
+module _ (f : Cause → Doc.Call) (rest w after : List ℕ) (first : w ≡ firstWord rest) (others : after ≡ afterWord rest) (r : Bool)
+    (is : r ≡ isBlank after) where
   fault-on : faultMeaning f (wordsOf rest) ≡ atEnd (causeMeaning f w) (wordsOf after)
   unfolding faultMeaning
-  fault-on = ap (λ (l : List ℕ). atEnd (causeMeaning f l) (othersOf (wordsOf rest))) (sym (first-of rest w first)) ∙ ap (atEnd (causeMeaning f w)) (sym (others-of rest after others))
+  fault-on = ap (λ (l : List ℕ). atEnd (causeMeaning f l) (othersOf (wordsOf rest))) (sym (first-of rest w first)) ∙ ap
+      (atEnd (causeMeaning f w)) (sym (others-of rest after others))
 
   pub fault-more : r ≡ false → faultMeaning f (wordsOf rest) ≡ unknown Ex.End
   fault-more e = fault-on ∙ goes-on after r is (causeMeaning f w) e
@@ -161,12 +171,14 @@ module _ (f : Cause → Doc.Call) (rest w after : List ℕ) (first : w ≡ first
 
     pub fault-internal : isWord w (ascii "internal") ≡ true → faultMeaning f (wordsOf rest) ≡ call (f Internal)
     unfolding causeMeaning
-    fault-internal i = fault-last ∙ yes (isWord w (ascii "internal")) (call (f Internal)) (cond (isWord w (ascii "communication")) (call (f Lost)) (unknown Ex.Cause)) i
+    fault-internal i = fault-last ∙ yes (isWord w (ascii "internal")) (call (f Internal))
+        (cond (isWord w (ascii "communication")) (call (f Lost)) (unknown Ex.Cause)) i
 
     module _ (i : isWord w (ascii "internal") ≡ false) where
       fault-other : faultMeaning f (wordsOf rest) ≡ cond (isWord w (ascii "communication")) (call (f Lost)) (unknown Ex.Cause)
       unfolding causeMeaning
-      fault-other = fault-last ∙ no (isWord w (ascii "internal")) (call (f Internal)) (cond (isWord w (ascii "communication")) (call (f Lost)) (unknown Ex.Cause)) i
+      fault-other = fault-last ∙ no (isWord w (ascii "internal")) (call (f Internal))
+          (cond (isWord w (ascii "communication")) (call (f Lost)) (unknown Ex.Cause)) i
 
       pub fault-lost : isWord w (ascii "communication") ≡ true → faultMeaning f (wordsOf rest) ≡ call (f Lost)
       fault-lost j = fault-other ∙ yes (isWord w (ascii "communication")) (call (f Lost)) (unknown Ex.Cause) j
@@ -182,4 +194,5 @@ module _ (rest : List ℕ) (b : Bool) (is : b ≡ isBlank rest) where
 
   pub drive-parts : b ≡ false → driveMeaning (wordsOf rest) ≡ linesMeaning (itemsOf byteItem 64 (wordsOf rest))
   unfolding driveMeaning
-  drive-parts e = ap driveMeaning (words-more rest (not-blank rest b is e)) ∙ ap (λ (ws : List (List ℕ)). linesMeaning (itemsOf byteItem 64 ws)) (sym (words-more rest (not-blank rest b is e)))
+  drive-parts e = ap driveMeaning (words-more rest (not-blank rest b is e)) ∙ ap
+      (λ (ws : List (List ℕ)). linesMeaning (itemsOf byteItem 64 ws)) (sym (words-more rest (not-blank rest b is e)))

@@ -1,17 +1,17 @@
 -- The number that digits spell, read one digit after the other under a cap.
 -- Assumes nothing.
-use mathlib.Core.Path.{_≡_, refl, sym, ap, subst, _∙_}
+use mathlib.Core.Path.{_≡_, refl, ap, subst, _∙_}
 use mathlib.Core.Bool.{Bool, true, false, cond, _&&_}
 use mathlib.Core.List.{List, [], _∷_}
-use Prim.Native.Nat.{ℕ, zero, suc, _+_, _*_, _-_, _≤_, _<_}
-use native.Mathlib.Nat.{mul-le-mul, mul-le-mul-left, mul-le-mul-right, mul-one, le-refl}
+use Prim.Native.Nat.{ℕ, _+_, _*_, _-_, _≤_, _<_}
+use native.Mathlib.Nat.{mul-le-mul, mul-le-mul-left, mul-le-mul-right}
 use native.Mathlib.Numerals.{add-one}
 use native.Mathlib.Omega.{arith}
-use lib.Dec.{eqb, ltb}
+use lib.Dec.{ltb}
 use lib.ListN.{length, drop, getD, drop-of-length-le}
 use lib.Seq.{drop-cons}
 use borrow.Author.Tests.{lt-ltb, le-ltb, ltb-true, ltb-false, eq-eqb, ne-eqb}
-use Rattle.notation.specs.Numbers.{digitOf, allDigits, spelledOn, spelled, capped, isNumber, numberOf, shortNumber, minus, plus, signedOf}
+use Rattle.notation.specs.Numbers.{digitOf, allDigits, spelledOn, capped, numberOf, shortNumber, minus, plus, signedOf}
 
 -- what is left of a word makes of the number so far
 abbrev pub onward : ℕ → ℕ → List ℕ → ℕ
@@ -44,8 +44,10 @@ onward-is b s (x ∷ xs) h =
     at (ltb (digitOf x) b)
     (ap (λ v. onward b v xs) (capped-capped b s (digitOf x) h) ∙ onward-is b (s * b + digitOf x) xs h)
   where
-    at : (t : Bool) → onward b (capped (capped s * b + digitOf x)) xs ≡ cond (allDigits b xs) (capped (spelledOn b (s * b + digitOf x) xs)) 65536 →
-        cond t (onward b (capped (capped s * b + digitOf x)) xs) 65536 ≡ cond (t && allDigits b xs) (capped (spelledOn b (s * b + digitOf x) xs)) 65536
+    at : (t : Bool) → onward b (capped (capped s * b + digitOf x)) xs ≡ cond (allDigits b xs)
+        (capped (spelledOn b (s * b + digitOf x) xs)) 65536 →
+        cond t (onward b (capped (capped s * b + digitOf x)) xs) 65536 ≡ cond (t && allDigits b xs)
+        (capped (spelledOn b (s * b + digitOf x) xs)) 65536
     at true e = e
     at false e = refl
 

@@ -1,10 +1,9 @@
 -- Laws of the elements in front of a list that are a byte, or are not.
 -- Assumes nothing.
-use mathlib.Core.Path.{_≡_, refl, sym, ap, subst, _∙_}
+use mathlib.Core.Path.{_≡_, refl, ap, _∙_}
 use mathlib.Core.Bool.{Bool, true, false, cond}
 use mathlib.Core.List.{List, [], _∷_}
-use Prim.Native.Nat.{ℕ, zero, suc, _+_, _-_, _≤_, _<_}
-use native.Mathlib.Nat.{add-zero, zero-add}
+use Prim.Native.Nat.{ℕ, suc, _+_, _-_, _≤_, _<_}
 use native.Mathlib.Numerals.{add-one}
 use native.Mathlib.Omega.{arith}
 use lib.Dec.{eqb}
@@ -45,14 +44,17 @@ run-nil false b = refl
 
 -- the count so far, at i
 module _ (same : Bool) (b : ℕ) (xs : List ℕ) (i : ℕ) where
-  pub run-more : i < length xs → eqb (getD xs i 0) b ≡ same → run same b xs ≡ i + run same b (drop i xs) → run same b xs ≡ i + 1 + run same b (drop (i + 1) xs)
+  pub run-more : i < length xs → eqb (getD xs i 0) b ≡ same → run same b xs ≡ i + run same b (drop i xs)
+      → run same b xs ≡ i + 1 + run same b (drop (i + 1) xs)
   run-more h e p =
-      let q = p ∙ ap (λ (l : List ℕ). i + run same b l) (drop-cons xs i 0 h) ∙ ap (λ n. i + n) (counted same b (getD xs i 0) (drop (suc i) xs) e) in
+      let q = p ∙ ap (λ (l : List ℕ). i + run same b l) (drop-cons xs i 0 h) ∙ ap (λ n. i + n)
+      (counted same b (getD xs i 0) (drop (suc i) xs) e) in
       rw add-one (omega (arith, q))
 
   pub run-stops : i < length xs → (eqb (getD xs i 0) b ≡ same → ⊥) → run same b xs ≡ i + run same b (drop i xs) → InFront same b xs i
   run-stops h e p =
-      let q = p ∙ ap (λ (l : List ℕ). i + run same b l) (drop-cons xs i 0 h) ∙ ap (λ n. i + n) (uncounted same b (getD xs i 0) (drop (suc i) xs) e) in
+      let q = p ∙ ap (λ (l : List ℕ). i + run same b l) (drop-cons xs i 0 h) ∙ ap (λ n. i + n)
+      (uncounted same b (getD xs i 0) (drop (suc i) xs) e) in
       record { is = omega (arith, q); within = omega arith }
 
   pub run-ends : i ≤ length xs → length xs ≤ i → run same b xs ≡ i + run same b (drop i xs) → InFront same b xs i

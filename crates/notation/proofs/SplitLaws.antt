@@ -3,13 +3,14 @@
 use mathlib.Core.Path.{_≡_, refl, sym, ap, subst, _∙_}
 use mathlib.Core.Bool.{Bool, true, false, cond, _&&_}
 use mathlib.Core.List.{List, [], _∷_}
-use Prim.Native.Nat.{ℕ, zero, suc, _+_, _≤_}
+use Prim.Native.Nat.{ℕ, suc}
 use native.Mathlib.Omega.{arith}
 use lib.Dec.{eqb}
 use lib.ListN.{length, take, drop}
-use lib.Seq.{drop-drop, drop-nil, length-take-le}
-use borrow.Author.Tests.{eqb-true, eqb-false, eq-eqb, ne-eqb}
-use Rattle.notation.specs.Words.{run, spaces, wordEnd, firstWord, afterWord, isBlank, withByte, piecesOf, withoutEmpty, wordsOf, firstOf, othersOf, isWord}
+use lib.Seq.{drop-drop, length-take-le}
+use borrow.Author.Tests.{eqb-true, eqb-false, eq-eqb}
+use Rattle.notation.specs.Words.{run, spaces, wordEnd, firstWord, afterWord, withByte, piecesOf, withoutEmpty, wordsOf, firstOf}
+use Rattle.notation.specs.Words.{othersOf, isWord}
 use Rattle.notation.proofs.RunLaws.{run-within}
 
 -- the pieces after a space
@@ -22,7 +23,9 @@ pieces-first : (l : List ℕ) → piecesOf l ≡ take (run false 32 l) l ∷ aft
 pieces-first [] = refl
 pieces-first (x ∷ xs) = at (eqb x 32) (pieces-first xs)
   where
-    at : (t : Bool) → piecesOf xs ≡ take (run false 32 xs) xs ∷ afterSpace (drop (run false 32 xs) xs) → cond t ([] ∷ piecesOf xs) (withByte x (piecesOf xs)) ≡ take (cond t 0 (suc (run false 32 xs))) (x ∷ xs) ∷ afterSpace (drop (cond t 0 (suc (run false 32 xs))) (x ∷ xs))
+    at : (t : Bool) → piecesOf xs ≡ take (run false 32 xs) xs ∷ afterSpace (drop (run false 32 xs) xs) → cond t ([] ∷ piecesOf xs)
+        (withByte x (piecesOf xs)) ≡ take (cond t 0 (suc (run false 32 xs))) (x ∷ xs) ∷ afterSpace
+        (drop (cond t 0 (suc (run false 32 xs))) (x ∷ xs))
     at true r = refl
     at false r = ap (withByte x) r
 
@@ -31,7 +34,8 @@ words-skip : (l : List ℕ) → withoutEmpty (piecesOf l) ≡ withoutEmpty (piec
 words-skip [] = refl
 words-skip (x ∷ xs) = at (eqb x 32) refl (words-skip xs)
   where
-    at : (t : Bool) → eqb x 32 ≡ t → withoutEmpty (piecesOf xs) ≡ withoutEmpty (piecesOf (drop (run true 32 xs) xs)) → withoutEmpty (piecesOf (x ∷ xs)) ≡ withoutEmpty (piecesOf (drop (cond t (suc (run true 32 xs)) 0) (x ∷ xs)))
+    at : (t : Bool) → eqb x 32 ≡ t → withoutEmpty (piecesOf xs) ≡ withoutEmpty (piecesOf (drop (run true 32 xs) xs)) → withoutEmpty
+        (piecesOf (x ∷ xs)) ≡ withoutEmpty (piecesOf (drop (cond t (suc (run true 32 xs)) 0) (x ∷ xs)))
     at true e r = rw e r
     at false e r = refl
 
@@ -40,7 +44,10 @@ words-after : (l : List ℕ) → withoutEmpty (afterSpace (drop (run false 32 l)
 words-after [] = refl
 words-after (x ∷ xs) = at (eqb x 32) refl (words-after xs)
   where
-    at : (t : Bool) → eqb x 32 ≡ t → withoutEmpty (afterSpace (drop (run false 32 xs) xs)) ≡ withoutEmpty (piecesOf (drop (run false 32 xs) xs)) → withoutEmpty (afterSpace (drop (cond t 0 (suc (run false 32 xs))) (x ∷ xs))) ≡ withoutEmpty (piecesOf (drop (cond t 0 (suc (run false 32 xs))) (x ∷ xs)))
+    at : (t : Bool) → eqb x 32 ≡ t → withoutEmpty (afterSpace (drop (run false 32 xs) xs)) ≡ withoutEmpty
+        (piecesOf (drop (run false 32 xs) xs)) → withoutEmpty
+        (afterSpace (drop (cond t 0 (suc (run false 32 xs))) (x ∷ xs))) ≡ withoutEmpty
+        (piecesOf (drop (cond t 0 (suc (run false 32 xs))) (x ∷ xs)))
     at true e r = rw e
     at false e r = r
 
@@ -49,7 +56,8 @@ ends-there : (l : List ℕ) → run false 32 (drop (run true 32 l) l) ≡ 0 → 
 ends-there [] e = refl
 ends-there (x ∷ xs) e = at (eqb x 32) refl (ends-there xs) e
   where
-    at : (t : Bool) → eqb x 32 ≡ t → (run false 32 (drop (run true 32 xs) xs) ≡ 0 → drop (run true 32 xs) xs ≡ []) → run false 32 (drop (cond t (suc (run true 32 xs)) 0) (x ∷ xs)) ≡ 0 → drop (cond t (suc (run true 32 xs)) 0) (x ∷ xs) ≡ []
+    at : (t : Bool) → eqb x 32 ≡ t → (run false 32 (drop (run true 32 xs) xs) ≡ 0 → drop (run true 32 xs) xs ≡ []) → run false 32
+        (drop (cond t (suc (run true 32 xs)) 0) (x ∷ xs)) ≡ 0 → drop (cond t (suc (run true 32 xs)) 0) (x ∷ xs) ≡ []
     at true p r e = r e
     at false p r e =
         let q : suc (run false 32 xs) ≡ 0 = subst (λ (t : Bool). cond t 0 (suc (run false 32 xs)) ≡ 0) p e in
@@ -64,9 +72,11 @@ words-of : (l : List ℕ) → wordsOf l ≡ withoutEmpty (firstWord l ∷ afterS
 unfolding wordsOf firstWord
 words-of l = words-skip l ∙ ap withoutEmpty (pieces-first (drop (spaces l) l))
 
-words-behind : (l : List ℕ) → withoutEmpty (afterSpace (drop (run false 32 (drop (spaces l) l)) (drop (spaces l) l))) ≡ wordsOf (afterWord l)
+words-behind : (l : List ℕ) → withoutEmpty (afterSpace (drop (run false 32 (drop (spaces l) l)) (drop (spaces l) l))) ≡ wordsOf
+    (afterWord l)
 unfolding wordsOf afterWord wordEnd
-words-behind l = words-after (drop (spaces l) l) ∙ ap (λ (x : List ℕ). withoutEmpty (piecesOf x)) (drop-drop (run false 32 (drop (spaces l) l)) (spaces l) l)
+words-behind l = words-after (drop (spaces l) l) ∙ ap (λ (x : List ℕ). withoutEmpty (piecesOf x))
+    (drop-drop (run false 32 (drop (spaces l) l)) (spaces l) l)
 
 with-first : (w : List ℕ) (ps : List (List ℕ)) → (length w ≡ 0 → ⊥) → withoutEmpty (w ∷ ps) ≡ w ∷ withoutEmpty ps
 with-first [] ps h = absurd (h refl)
@@ -74,7 +84,8 @@ with-first (x ∷ w) ps h = refl
 
 -- a line that is not blank has its first word and the words after it
 pub words-more : (l : List ℕ) → (length (firstWord l) ≡ 0 → ⊥) → wordsOf l ≡ firstWord l ∷ wordsOf (afterWord l)
-words-more l h = words-of l ∙ with-first (firstWord l) (afterSpace (drop (run false 32 (drop (spaces l) l)) (drop (spaces l) l))) h ∙ ap (λ (ws : List (List ℕ)). firstWord l ∷ ws) (words-behind l)
+words-more l h = words-of l ∙ with-first (firstWord l) (afterSpace (drop (run false 32 (drop (spaces l) l)) (drop (spaces l) l))) h ∙ ap
+    (λ (ws : List (List ℕ)). firstWord l ∷ ws) (words-behind l)
 
 past-blank : (l : List ℕ) → length (firstWord l) ≡ 0 → drop (spaces l) l ≡ []
 past-blank l e = ends-there l (sym (first-long l) ∙ e)
@@ -91,7 +102,8 @@ pub first-of : (l w : List ℕ) → w ≡ firstWord l → w ≡ firstOf (wordsOf
 first-of l w p = at (eqb (length (firstWord l)) 0) refl
   where
     at : (t : Bool) → eqb (length (firstWord l)) 0 ≡ t → w ≡ firstOf (wordsOf l)
-    at true e = p ∙ empty (firstWord l) (eqb-true (length (firstWord l)) 0 e) ∙ sym (ap firstOf (words-none l (eqb-true (length (firstWord l)) 0 e)))
+    at true e = p ∙ empty (firstWord l) (eqb-true (length (firstWord l)) 0 e) ∙ sym
+        (ap firstOf (words-none l (eqb-true (length (firstWord l)) 0 e)))
       where
         empty : (x : List ℕ) → length x ≡ 0 → x ≡ []
         empty [] e = refl
@@ -102,7 +114,8 @@ pub others-of : (l r : List ℕ) → r ≡ afterWord l → wordsOf r ≡ othersO
 others-of l r p = at (eqb (length (firstWord l)) 0) refl
   where
     at : (t : Bool) → eqb (length (firstWord l)) 0 ≡ t → wordsOf r ≡ othersOf (wordsOf l)
-    at true e = ap wordsOf p ∙ none-behind l (eqb-true (length (firstWord l)) 0 e) ∙ sym (ap othersOf (words-none l (eqb-true (length (firstWord l)) 0 e)))
+    at true e = ap wordsOf p ∙ none-behind l (eqb-true (length (firstWord l)) 0 e) ∙ sym
+        (ap othersOf (words-none l (eqb-true (length (firstWord l)) 0 e)))
     at false e = ap wordsOf p ∙ sym (ap othersOf (words-more l (eqb-false (length (firstWord l)) 0 e)))
 
 unlike : _≡_ {A = Bool} false true → ⊥

@@ -1,28 +1,29 @@
 -- Laws of the words of a line.
 -- Assumes nothing.
-use mathlib.Core.Path.{_≡_, refl, sym, ap, subst, _∙_}
-use mathlib.Core.Bool.{Bool, true, false, cond}
+use mathlib.Core.Path.{_≡_, refl, ap, _∙_}
+use mathlib.Core.Bool.{true, false}
 use mathlib.Core.List.{List, [], _∷_}
-use Prim.Native.Nat.{ℕ, zero, suc, _+_, _-_, _≤_, _<_}
+use Prim.Native.Nat.{ℕ, _+_, _-_}
 use native.Mathlib.Omega.{arith}
-use lib.Dec.{eqb}
 use borrow.Author.Tests.{eq-eqb, ne-eqb}
-use lib.ListN.{length, drop, take, getD, length-drop, length-take}
+use lib.ListN.{length, drop, take, getD, length-drop}
 use lib.Seq.{take-all, length-take-le}
-use Rattle.notation.specs.Words.{run, spaces, InFront, WordEnd, wordEnd, firstWord, afterWord, withoutReturn, contentOf}
+use Rattle.notation.specs.Words.{run, spaces, InFront, WordEnd, wordEnd, firstWord, withoutReturn, contentOf}
 use Rattle.notation.proofs.RunLaws.{run-within}
 
 -- a part that goes to the end is what is left
 pub rest-is : (line : List ℕ) (n : ℕ) → take (length line - n) (drop n line) ≡ drop n line
 rest-is line n = take-all (length line - n) (drop n line) (omega (arith, length-drop n line))
 
-pub first-word-is : (line text r : List ℕ) (from n : ℕ) → InFront true 32 line from → text ≡ drop from line → InFront false 32 text n → r ≡ take n text → r ≡ firstWord line
+pub first-word-is : (line text r : List ℕ) (from n : ℕ) → InFront true 32 line from → text ≡ drop from line → InFront false 32 text n
+    → r ≡ take n text → r ≡ firstWord line
 unfolding firstWord
 first-word-is line text r from n f t u e =
     let p : text ≡ drop (spaces line) line = t ∙ ap (λ k. drop k line) (f .is) in
     e ∙ ap (λ k. take k text) (u .is) ∙ ap (λ (l : List ℕ). take (run false 32 l) l) p
 
-pub word-end-is : (line text : List ℕ) (from n : ℕ) → InFront true 32 line from → text ≡ drop from line → InFront false 32 text n → WordEnd line (from + n)
+pub word-end-is : (line text : List ℕ) (from n : ℕ) → InFront true 32 line from → text ≡ drop from line → InFront false 32 text n
+    → WordEnd line (from + n)
 unfolding firstWord wordEnd
 word-end-is line text from n f t u =
     let p : text ≡ drop (spaces line) line = t ∙ ap (λ k. drop k line) (f .is) in
@@ -30,7 +31,13 @@ word-end-is line text from n f t u =
     record {
       is = ap (λ k. k + n) (f .is) ∙ ap (λ k. spaces line + k) q;
       within = omega (arith, f .within, u .within, ap length t, length-drop from line);
-      past = omega (arith, q, run-within false 32 (drop (spaces line) line), length-take-le (run false 32 (drop (spaces line) line)) (drop (spaces line) line) (run-within false 32 (drop (spaces line) line)));
+      past = omega (
+        arith,
+        q,
+        run-within false 32 (drop (spaces line) line),
+        length-take-le (run false 32 (drop (spaces line) line))
+            (drop (spaces line) line) (run-within false 32 (drop (spaces line) line)),
+      );
     }
 
 pub content-is : (line text r : List ℕ) (n : ℕ) → text ≡ withoutReturn line → InFront false 35 text n → r ≡ take n text → r ≡ contentOf line

@@ -57,7 +57,8 @@ SaysSample m r bytes numbers events = (payload : List ℕ) → Says m r payload 
 
 -- for a sample whose first n bytes are read
 abbrev pub SaysAnalogue : ℕ → Found ℤ → Call → List ℤ → List ℕ → Type 0
-SaysAnalogue n found r numbers events = (payload bytes : List ℕ) → Says (analogueMeaning (take n bytes) found) r payload bytes numbers events
+SaysAnalogue n found r numbers events =
+    (payload bytes : List ℕ) → Says (analogueMeaning (take n bytes) found) r payload bytes numbers events
 
 -- for a drive
 abbrev pub SaysDrive : Meaning → Call → List ℕ → List ℤ → Type 0
@@ -65,4 +66,5 @@ SaysDrive m r bytes numbers = (payload events : List ℕ) → Says m r payload b
 
 -- for a drive whose first n bytes are read
 abbrev pub SaysChannels : ℕ → Found ℤ → Call → List ℤ → Type 0
-SaysChannels n found r numbers = (payload bytes events : List ℕ) → Says (channelsMeaning (take n bytes) found) r payload bytes numbers events
+SaysChannels n found r numbers =
+    (payload bytes events : List ℕ) → Says (channelsMeaning (take n bytes) found) r payload bytes numbers events

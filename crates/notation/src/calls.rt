@@ -26,7 +26,8 @@ ghost use Rattle.notation.specs.Words.{wordsOf};
 ghost use Rattle.notation.specs.Items.{byteItem, numberItem, itemsOf};
 ghost use Rattle.notation.specs.Promises.{Says, SaysPlain, SaysPayload, SaysSample, SaysAnalogue, SaysDrive, SaysChannels};
 ghost use Rattle.notation.specs.Meanings.Meaning.{call};
-ghost use Rattle.notation.specs.Meanings.{meaningOf, plainMeaning, namedCommand, createMeaning, commandMeaning, namedMeaning, faultMeaning, accessMeaning, subIndexOf, writeMeaning, sampleMeaning, driveMeaning};
+ghost use Rattle.notation.specs.Meanings.{meaningOf, plainMeaning, namedCommand, createMeaning, commandMeaning, namedMeaning};
+ghost use Rattle.notation.specs.Meanings.{faultMeaning, accessMeaning, subIndexOf, writeMeaning, sampleMeaning, driveMeaning};
 
 // The buffers are lent filled with zeros: a sample or a drive without them gets the first of those.
 pub fn understand(
@@ -37,7 +38,8 @@ pub fn understand(
     events: &mut [u8; 64],
 ) -> Call
     requires { ⌜ (now bytes ≡ replicate 64 0) × (now numbers ≡ replicate 64 (pos 0)) × (now events ≡ replicate 64 0) ⌝ }
-    ensures { λ r. ⌜ Says (meaningOf (now (line .entry))) r (now (payload .exit)) (now (bytes .exit)) (now (numbers .exit)) (now (events .exit)) ⌝ }
+    ensures { λ r. ⌜ Says (meaningOf (now (line .entry))) r
+        (now (payload .exit)) (now (bytes .exit)) (now (numbers .exit)) (now (events .exit)) ⌝ }
 {
     let text = content(line);
     let word = first_word(text);
@@ -216,7 +218,8 @@ fn write(index: u16, sub: u8, rest: &[u8], payload: &mut [u8; 512]) -> Call
 
 fn sample(rest: &[u8], bytes: &mut [u8; 64], numbers: &mut [i16; 64], events: &mut [u8; 64]) -> Call
     requires { ⌜ now events ≡ replicate 64 0 ⌝ }
-    ensures { λ r. ⌜ SaysSample (sampleMeaning (itemsOf byteItem 64 (wordsOf (now (rest .entry))))) r (now (bytes .exit)) (now (numbers .exit)) (now (events .exit)) ⌝ }
+    ensures { λ r. ⌜ SaysSample (sampleMeaning (itemsOf byteItem 64 (wordsOf (now (rest .entry))))) r
+        (now (bytes .exit)) (now (numbers .exit)) (now (events .exit)) ⌝ }
 {
     match read_bytes(rest, bytes) {
         Items::Unknown(expected) => Call::Unknown(expected),
@@ -232,7 +235,8 @@ fn sample(rest: &[u8], bytes: &mut [u8; 64], numbers: &mut [i16; 64], events: &m
 
 fn sampled(digital: usize, rest: &[u8], numbers: &mut [i16; 64], events: &mut [u8; 64]) -> Call
     requires { ⌜ (digital ≤ 64) × (now events ≡ replicate 64 0) ⌝ }
-    ensures { λ r. ⌜ SaysAnalogue digital (itemsOf numberItem 64 (wordsOf (now (rest .entry)))) r (now (numbers .exit)) (now (events .exit)) ⌝ }
+    ensures { λ r. ⌜ SaysAnalogue digital (itemsOf numberItem 64 (wordsOf (now (rest .entry)))) r
+        (now (numbers .exit)) (now (events .exit)) ⌝ }
 {
     match read_numbers(rest, numbers) {
         Items::Unknown(expected) => Call::Unknown(expected),

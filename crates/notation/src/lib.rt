@@ -1,4 +1,4 @@
-// The notation of a list of calls: a line as a call, and a call's answer as a line.
+// The notation of a list of calls: a line as a call.
 use profile::Cause;
 
 // The words of a line.
@@ -9,10 +9,6 @@ pub mod numbers;
 pub mod items;
 // A line as a call.
 pub mod calls;
-// Bytes put into a lent buffer.
-pub mod text;
-// Answer lines.
-pub mod answers;
 
 // What a line says. Its data stand in the buffers lent to the reader.
 pub enum Call {

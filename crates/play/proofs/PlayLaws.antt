@@ -9,25 +9,26 @@ use native.Mathlib.Omega.{arith}
 use lib.ListN.{length, take, set}
 use lib.Seq.{sets}
 use lib.IntN.{ℤ}
-use lib.Dec.{eqb, ltb}
+use lib.Dec.{eqb}
 use borrow.Author.Tests.{eq-eqb, ne-eqb, lt-ltb, le-ltb}
 use Rattle.profile.specs.Calls.{Call, Reply}
 use Rattle.profile.specs.Refusals.{createRefusal, createdNumber}
 use Rattle.profile.specs.Replies.{freshMachines, reply}
-use Rattle.profile.specs.Lists.{Same, Outcome, stepAll}
+use Rattle.profile.specs.Outcome.{Same, stepAll}
 use Rattle.device.specs.declared.Device.{Device}
 use Rattle.device.specs.declared.Created.{Created}
 use Rattle.device.specs.View.{machinesOf}
-use Rattle.device.specs.Promises.{CreatedAs}
-use Rattle.notation.specs.Texts.{Put}
-use Rattle.notation.specs.Answers.{plainLine}
+use Rattle.device.specs.Promises.{CreatedAs, Ensured}
+use Rattle.answers.specs.Texts.{Put}
+use Rattle.answers.specs.Answers.{plainLine}
 use Rattle.notation.specs.declared.Call.{Call as Said}
-use Rattle.notation.proofs.LengthLaws.{plain-short}
+use Rattle.answers.proofs.LengthLaws.{plain-short}
 use Rattle.notation.specs.Meanings.{Meaning}
 use Rattle.notation.specs.Meanings.Meaning.{nothing, create, call}
 use Rattle.notation.specs.Promises.{said, Fitting, Says}
 use Rattle.play.specs.declared.session.Session.{Session}
-use Rattle.play.specs.Playing.{answerLine, machinesFor, counted, emptied, Played, PlayedWhole, Emptied, LinePlayed, heldMore, longer, Took, PlayedLast, Counted}
+use Rattle.play.specs.Playing.{answerLine, machinesFor, counted, emptied, Played, PlayedWhole, Emptied, LinePlayed, heldMore}
+use Rattle.play.specs.Playing.{longer, Took, PlayedLast, Counted}
 
 -- what a call leaves of the part that it was lent stands in front of the rest
 pub front-is : {A : Type 0} (n : ℕ) (left rest : List A) → length left ≡ n → take n (left ++ rest) ≡ left
@@ -38,13 +39,15 @@ front-is {A = A} n left rest e = ap (λ k. take k (left ++ rest)) (sym e) ∙ at
     at (x ∷ l) = ap (λ (m : List A). x ∷ m) (at l)
 
 -- a line means what the reader's answer says
-pub as-meant : {before after : Session} {out left : List ℕ} {payload bytes : List ℕ} {numbers : List ℤ} {events : List ℕ} (m : Meaning) (r s : Said) → Says m r payload bytes numbers events → r ≡ s →
+pub as-meant : {before after : Session} {out left : List ℕ} {payload bytes : List ℕ} {numbers : List ℤ} {events : List ℕ} (m : Meaning)
+    (r s : Said) → Says m r payload bytes numbers events → r ≡ s →
     Played before (said s payload bytes numbers events) out after left → Played before m out after left
 as-meant {before} {after} {out} {left} {payload} {bytes} {numbers} {events} m r s w e p =
     subst (λ (x : Meaning). Played before x out after left) (ap (λ (x : Said). said x payload bytes numbers events) (sym e) ∙ w .is) p
 
 -- its data lie within the buffers
-pub fits-as : (m : Meaning) (r s : Said) {payload bytes : List ℕ} {numbers : List ℤ} {events : List ℕ} → Says m r payload bytes numbers events → r ≡ s → Fitting s
+pub fits-as : (m : Meaning) (r s : Said) {payload bytes : List ℕ} {numbers : List ℤ} {events : List ℕ}
+    → Says m r payload bytes numbers events → r ≡ s → Fitting s
 fits-as m r s w e = subst (λ (x : Said). Fitting x) e (w .fits)
 
 pub not-played : (before : Session) (out : List ℕ) → Played before nothing out before out
@@ -64,7 +67,8 @@ not-played before out = record {
 }
 
 -- text of at most a kilobyte, put where the block has a kilobyte left
-module _ (text out : List ℕ) (at : ℕ) (left : List ℕ) (next : ℕ) (p : Put text out at left next) (b : length text ≤ 1024) (l : length out ≡ 8192) where
+module _ (text out : List ℕ) (at : ℕ) (left : List ℕ) (next : ℕ) (p : Put text out at left next) (b : length text ≤ 1024)
+    (l : length out ≡ 8192) where
   pub all-written : at ≤ 7168 → left ≡ sets out at text
   all-written h = p .written (omega (arith, h, b, l))
 
@@ -72,12 +76,16 @@ module _ (text out : List ℕ) (at : ℕ) (left : List ℕ) (next : ℕ) (p : Pu
   all-moved h = p .moved (omega (arith, h, b, l))
 
 module _ (before : Session) (out left : List ℕ) (after : Session) where
-  pub called : (c : Call) (r : Reply) (d : Device) (place : ℕ) → Outcome (machinesOf (before .device)) c r (machinesOf d) → Counted before d (r .number) place after →
-      Put (answerLine c r) out (before .at) left place → length (answerLine c r) ≤ 1024 → length out ≡ 8192 → Played before (call c) out after left
-  called c r d place o k p b l =
+  pub called : (c : Call) (r : Reply) (d : Device) (place : ℕ) → Ensured (before .device) c r d → Counted before d (r .number) place after →
+      Put (answerLine c r) out (before .at) left place → length (answerLine c r) ≤ 1024 → length out ≡ 8192 → Played before
+      (call c) out after left
+  called c r d place kept k p b l =
+      let o = kept .outcome in
       let put : Put (answerLine c (reply (machinesOf (before .device)) c)) out (before .at) left (after .at) =
-      subst (λ (x : Reply). Put (answerLine c x) out (before .at) left (after .at)) (o .replied) (subst (λ n. Put (answerLine c r) out (before .at) left n) (sym (k .at)) p) in
-      let few : length (answerLine c (reply (machinesOf (before .device)) c)) ≤ 1024 = subst (λ (x : Reply). length (answerLine c x) ≤ 1024) (o .replied) b in
+      subst (λ (x : Reply). Put (answerLine c x) out (before .at) left (after .at)) (o .replied)
+      (subst (λ n. Put (answerLine c r) out (before .at) left n) (sym (k .at)) p) in
+      let few : length (answerLine c (reply (machinesOf (before .device)) c)) ≤ 1024 = subst
+      (λ (x : Reply). length (answerLine c x) ≤ 1024) (o .replied) b in
       record {
         machines = subst (λ (x : Device). Same (machinesOf x) (stepAll c (machinesOf (before .device)))) (sym (k .device)) (o .machines);
         answered = put;
@@ -97,7 +105,8 @@ module _ (before : Session) (out left : List ℕ) (after : Session) where
       Put (plainLine (made .number)) out (before .at) left place → length out ≡ 8192 → Played before (create node) out after left
   created node made place o k p l =
       let put : Put (plainLine (createRefusal node)) out (before .at) left (after .at) =
-      subst (λ n. Put (plainLine n) out (before .at) left (after .at)) (o .numbered) (subst (λ n. Put (plainLine (made .number)) out (before .at) left n) (sym (k .at)) p) in
+      subst (λ n. Put (plainLine n) out (before .at) left (after .at)) (o .numbered)
+      (subst (λ n. Put (plainLine (made .number)) out (before .at) left n) (sym (k .at)) p) in
       record {
         machines = subst (λ (x : Device). Same (machinesOf x) (freshMachines (createdNumber node))) (sym (k .device)) (o .machines);
         answered = put;
@@ -131,7 +140,8 @@ begun held n = record {
 }
 
 -- a line that was begun, played and written out
-pub line-played : (held : Session) (n : ℕ) (played after : Session) (m meant : Meaning) (out left : List ℕ) → Played (begun held n) m out played left → Emptied played after → m ≡ meant →
+pub line-played : (held : Session) (n : ℕ) (played after : Session) (m meant : Meaning) (out left : List ℕ) → Played
+    (begun held n) m out played left → Emptied played after → m ≡ meant →
     n ≡ counted true (held .lines) → held .at ≤ 7168 → LinePlayed held meant out after left
 line-played held n played after m meant out left p w e l h =
     let q : Played (begun held (counted true (held .lines))) m out played left = subst (λ k. Played (begun held k) m out played left) l p in
@@ -166,7 +176,8 @@ module _ (before : Session) (byte : ℕ) (held out : List ℕ) (after : Session)
   pub took-line : byte ≡ 10 → Took true before byte held out after kept left → Took (eqb byte 10) before byte held out after kept left
   took-line e t = subst (λ (b : Bool). Took b before byte held out after kept left) (sym (eq-eqb byte 10 e)) t
 
-  pub took-byte : (byte ≡ 10 → ⊥) → Took false before byte held out after kept left → Took (eqb byte 10) before byte held out after kept left
+  pub took-byte : (byte ≡ 10 → ⊥) → Took false before byte held out after kept left → Took
+      (eqb byte 10) before byte held out after kept left
   took-byte n t = subst (λ (b : Bool). Took b before byte held out after kept left) (sym (ne-eqb byte 10 n)) t
 
   -- either way an answer has room

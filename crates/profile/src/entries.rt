@@ -1,10 +1,13 @@
-// The object dictionary of document 01: which entry an index and a sub-index name, its size, its access and its values.
+// The object dictionary of document 01: which entry an index and a sub-index name.
 use crate::Entry;
+use crate::Home;
 use crate::refusals::NO_OBJECT;
 use crate::refusals::NO_SUB_INDEX;
 ghost use mathlib.Core.Path.{_≡_};
 ghost use Prim.Native.Nat.{_<_, _-_};
-ghost use Rattle.profile.specs.Entries.{table, place, single, counted, windowAt, isInput, isOutput, otherEntry, entryOf, sizeOf, readOnly, notAllowed, isErrorValue, aboveRange, belowRange};
+ghost use Rattle.profile.specs.Lookup.{placeWord};
+ghost use Rattle.profile.specs.Entries.{table, place, widthOf, absentEntry, at, object, reading, setting, short, window, objectOf};
+ghost use Rattle.profile.specs.Entries.{entryOf, notAllowed};
 
 // The indices of 1, 8, 16 and 32 bits, a row for each attribute of digital lines.
 const INDICES: [[u16; 4]; 11] = [
@@ -21,19 +24,35 @@ const INDICES: [[u16; 4]; 11] = [
     [0x6270, 0x6208, 0x6308, 0x6328], // output filter mask
 ];
 
-// The place where an index stands if it stands in the table at all, by its key: 5 times the index plus its sixteenth, below 128.
-const PLACES: [[u8; 16]; 8] = [
-    [1, 0, 0, 0, 0, 0, 36, 0, 0, 0, 5, 0, 0, 0, 0, 9],
-    [2, 0, 0, 0, 0, 12, 0, 0, 0, 0, 6, 8, 0, 0, 13, 10],
-    [25, 0, 0, 17, 0, 0, 0, 0, 21, 0, 29, 0, 0, 0, 14, 0],
-    [26, 0, 3, 18, 0, 32, 0, 20, 22, 0, 30, 0, 7, 0, 33, 0],
-    [0, 11, 24, 37, 0, 0, 0, 0, 41, 0, 0, 0, 0, 0, 34, 0],
-    [15, 0, 27, 38, 0, 19, 0, 40, 42, 0, 23, 0, 31, 0, 0, 0],
-    [0, 0, 0, 0, 28, 0, 16, 0, 0, 0, 0, 0, 0, 0, 0, 0],
-    [35, 0, 0, 4, 0, 39, 0, 0, 0, 0, 43, 0, 0, 0, 0, 0],
-];
+// Eight places to a word, the lowest byte first: where an index stands if it stands in the table at all, by its key, 5 times the index
+// plus its sixteenth, below 128.
+// Words of a match and no array: an array is written out anew in each call.
+fn places(n: usize) -> u64
+    requires { ⌜ n < 16 ⌝ }
+    ensures { λ r. ⌜ r ≡ placeWord n ⌝ }
+{
+    match n {
+        0 => 0x0024000000000001,
+        1 => 0x0900000000050000,
+        2 => 0x00000c0000000002,
+        3 => 0x0a0d000008060000,
+        4 => 0x0000000011000019,
+        5 => 0x000e0000001d0015,
+        6 => 0x140020001203001a,
+        7 => 0x00210007001e0016,
+        8 => 0x0000000025180b00,
+        9 => 0x0022000000000029,
+        10 => 0x28001300261b000f,
+        11 => 0x0000001f0017002a,
+        12 => 0x0010001c00000000,
+        13 => 0x0000000000000000,
+        14 => 0x0000270004000023,
+        _ => 0x00000000002b0000,
+    }
+}
 
-const WIDTHS: [usize; 4] = [1, 8, 16, 32];
+// The highest value of an entry that takes any.
+const ANY: u32 = 0xFFFF_FFFF;
 
 impl Entry {
     pub fn find(index: u16, sub: u8) -> Entry
@@ -41,146 +60,41 @@ impl Entry {
     {
         let place = place_of(index);
         if place < 44 {
-            return window_at(place / 4, WIDTHS[place % 4], sub);
+            return window(place / 4, place % 4, sub);
         }
-        other_entry(index, sub)
+        object(index, sub)
     }
 
-    // In bytes; an entry of one line is one byte.
-    pub fn size(self) -> usize
-        ensures { λ r. ⌜ r ≡ sizeOf self ⌝ }
-    {
-        match self {
-            Entry::Absent(_) => 0,
-            Entry::Constant(size, _) => size,
-            Entry::Window(_, width, _) => if width == 1 { 1 } else { width / 8 },
-            Entry::Input(index, _) => if index == 0x6401 {
-                2
-            } else if index == 0x6421 {
-                1
-            } else {
-                4
-            },
-            Entry::Output(index, _) => if index == 0x6411 {
-                2
-            } else if index == 0x6443 {
-                1
-            } else {
-                4
-            },
-            Entry::Sources => 4,
-            Entry::Device(_) => 1,
-        }
-    }
-
-    pub fn is_read_only(self) -> bool
-        ensures { λ r. ⌜ r ≡ readOnly self ⌝ }
-    {
-        match self {
-            Entry::Absent(_) => true,
-            Entry::Constant(_, _) => true,
-            Entry::Window(row, _, _) => row == 0,
-            Entry::Input(index, _) => index == 0x6401,
-            Entry::Output(_, _) => false,
-            Entry::Sources => true,
-            Entry::Device(index) => index == 0x1001,
-        }
-    }
-
-    // The value is none of the few that the entry takes.
+    // The value is none of those that the entry takes.
     pub fn forbids(self, value: u32) -> bool
         ensures { λ r. ⌜ r ≡ notAllowed self value ⌝ }
     {
-        match self {
-            Entry::Absent(_) => false,
-            Entry::Constant(_, _) => false,
-            Entry::Window(_, width, _) => (width == 1) & (1 < value),
-            Entry::Input(index, _) => (index == 0x6421) & (31 < value),
-            Entry::Output(index, _) => (index == 0x6443) & (1 < value),
-            Entry::Sources => false,
-            Entry::Device(index) => if index == 0x1029 {
-                2 < value
-            } else {
-                1 < value
-            },
-        }
-    }
-
-    // 6444 takes the numbers of 16 bits in 32.
-    fn is_error_value(self) -> bool
-        ensures { λ r. ⌜ r ≡ isErrorValue self ⌝ }
-    {
-        match self {
-            Entry::Absent(_) => false,
-            Entry::Constant(_, _) => false,
-            Entry::Window(_, _, _) => false,
-            Entry::Input(_, _) => false,
-            Entry::Output(index, _) => index == 0x6444,
-            Entry::Sources => false,
-            Entry::Device(_) => false,
-        }
-    }
-
-    // In two's complement, above 32,767.
-    pub fn is_above_range(self, value: u32) -> bool
-        ensures { λ r. ⌜ r ≡ aboveRange self value ⌝ }
-    {
-        self.is_error_value() & ((32_767 < value) & (value < 0x8000_0000))
-    }
-
-    // In two's complement, below -32,768.
-    pub fn is_below_range(self, value: u32) -> bool
-        ensures { λ r. ⌜ r ≡ belowRange self value ⌝ }
-    {
-        self.is_error_value() & ((0x8000_0000 <= value) & (value < 0xFFFF_8000))
+        (value < self.lowest) | (self.highest < value)
     }
 }
 
-// The place of an index in the table, or the table's length.
+// The place of an index in the table, or the table's length. All of its indices are from 6000 to 63FF: any other is not looked up.
 fn place_of(index: u16) -> usize
+    ensures { λ r. ⌜ r ≡ place table index ⌝ }
+{
+    if index / 1024 != 24 {
+        return 44;
+    }
+    keyed_place(index)
+}
+
+// The same by the key.
+fn keyed_place(index: u16) -> usize
     ensures { λ r. ⌜ r ≡ place table index ⌝ }
 {
     let number = index as usize;
     let key = (5 * number + number / 16) % 128;
-    let place = PLACES[key / 16][key % 16] as usize;
+    let word = places(key / 8);
+    let place = ((word >> (8 * (key % 8))) % 256) as usize;
     if index == INDICES[place / 4][place % 4] {
         return place;
     }
     44
-}
-
-// An object that has sub-index 0 alone.
-fn single(sub: u8, entry: Entry) -> Entry
-    ensures { λ r. ⌜ r ≡ single sub entry ⌝ }
-{
-    if sub == 0 {
-        return entry;
-    }
-    Entry::Absent(NO_SUB_INDEX)
-}
-
-// Any other object has its entry count at sub-index 0.
-fn counted(count: u32, sub: u8, entry: Entry) -> Entry
-    ensures { λ r. ⌜ r ≡ counted count sub entry ⌝ }
-{
-    if sub == 0 {
-        return Entry::Constant(1, count);
-    }
-    if count < sub as u32 {
-        return Entry::Absent(NO_SUB_INDEX);
-    }
-    entry
-}
-
-fn window_at(row: usize, width: usize, sub: u8) -> Entry
-    requires { ⌜ 0 < width ⌝ }
-    ensures { λ r. ⌜ r ≡ windowAt row width sub ⌝ }
-{
-    counted(
-        (128 / width) as u32,
-        sub,
-        Entry::Window(row, width, sub as usize),
-    )
 }
 
 // Channel 1 is 0 here; so is sub-index 0, the entry count.
@@ -193,41 +107,115 @@ fn channel_of(sub: u8) -> usize
     (sub as usize) - 1
 }
 
-// The objects with an entry for each analogue input.
-fn is_input(index: u16) -> bool
-    ensures { λ r. ⌜ r ≡ isInput index ⌝ }
+fn absent(number: u32) -> Entry
+    ensures { λ r. ⌜ r ≡ absentEntry number ⌝ }
 {
-    (index == 0x6401) | (index == 0x6421) | ((0x6424 <= index) & (index <= 0x6428))
+    Entry {
+        absent: number,
+        size: 0,
+        fixed: true,
+        short: false,
+        lowest: 0,
+        highest: 0,
+        home: Home::Constant(0),
+    }
 }
 
-// The objects with an entry for each analogue output.
-fn is_output(index: u16) -> bool
-    ensures { λ r. ⌜ r ≡ isOutput index ⌝ }
+// What an object has at a sub-index: nothing above its last; its entry count at 0, unless that is its last; else the entry.
+fn at(
+    sub: u8,
+    last: u8,
+    size: u8,
+    fixed: bool,
+    short: bool,
+    lowest: u32,
+    highest: u32,
+    home: Home,
+) -> Entry
+    ensures { λ r. ⌜ r ≡ at sub (object last size fixed short lowest highest home) ⌝ }
 {
-    (index == 0x6411) | (index == 0x6443) | (index == 0x6444)
+    if last < sub {
+        return absent(NO_SUB_INDEX);
+    }
+    if (sub == 0) & (last != 0) {
+        return Entry {
+            absent: 0,
+            size: 1,
+            fixed: true,
+            short: false,
+            lowest: 0,
+            highest: 0,
+            home: Home::Constant(last as u32),
+        };
+    }
+    Entry {
+        absent: 0,
+        size,
+        fixed,
+        short,
+        lowest,
+        highest,
+        home,
+    }
 }
 
-// The entries outside the table of digital lines.
-fn other_entry(index: u16, sub: u8) -> Entry
-    ensures { λ r. ⌜ r ≡ otherEntry index sub ⌝ }
+// Read only.
+fn reading(sub: u8, last: u8, size: u8, home: Home) -> Entry
+    ensures { λ r. ⌜ r ≡ at sub (reading last size home) ⌝ }
 {
-    if is_input(index) {
-        return counted(16, sub, Entry::Input(index, channel_of(sub)));
+    at(sub, last, size, true, false, 0, 0, home)
+}
+
+fn setting(sub: u8, last: u8, size: u8, lowest: u32, highest: u32, home: Home) -> Entry
+    ensures { λ r. ⌜ r ≡ at sub (setting last size lowest highest home) ⌝ }
+{
+    at(sub, last, size, false, false, lowest, highest, home)
+}
+
+// Four bytes for the numbers of 16 bits.
+fn short(sub: u8, last: u8, home: Home) -> Entry
+    ensures { λ r. ⌜ r ≡ at sub (short last home) ⌝ }
+{
+    at(sub, last, 4, false, true, 0, ANY, home)
+}
+
+// By the row and the column of the table of digital lines. An entry of one line is one byte.
+fn window(row: usize, column: usize, sub: u8) -> Entry
+    requires { ⌜ column < 4 ⌝ }
+    ensures { λ r. ⌜ r ≡ at sub (window row (widthOf column) sub) ⌝ }
+{
+    let s = sub as usize;
+    let input = row == 0;
+    match column {
+        0 => at(sub, 128, 1, input, false, 0, 1, Home::Window(row, 1, s)),
+        1 => at(sub, 16, 1, input, false, 0, ANY, Home::Window(row, 8, s)),
+        2 => at(sub, 8, 2, input, false, 0, ANY, Home::Window(row, 16, s)),
+        _ => at(sub, 4, 4, input, false, 0, ANY, Home::Window(row, 32, s)),
     }
-    if is_output(index) {
-        return counted(8, sub, Entry::Output(index, channel_of(sub)));
+}
+
+// The objects outside the table of digital lines.
+fn object(index: u16, sub: u8) -> Entry
+    ensures { λ r. ⌜ r ≡ objectOf index sub ⌝ }
+{
+    let n = channel_of(sub);
+    match index {
+        0x1000 => reading(sub, 0, 4, Home::Constant(0x000F_0191)),
+        0x1001 => reading(sub, 0, 1, Home::Device(index)),
+        0x1029 => setting(sub, 1, 1, 0, 2, Home::Device(index)),
+        0x6005 => setting(sub, 0, 1, 0, 1, Home::Device(index)),
+        0x6401 => reading(sub, 16, 2, Home::InputChannel(index, n)),
+        0x6411 => setting(sub, 8, 2, 0, ANY, Home::OutputChannel(index, n)),
+        0x6421 => setting(sub, 16, 1, 0, 31, Home::InputChannel(index, n)),
+        0x6422 => reading(sub, 1, 4, Home::Sources),
+        0x6423 => setting(sub, 0, 1, 0, 1, Home::Device(index)),
+        0x6424 => setting(sub, 16, 4, 0, ANY, Home::InputChannel(index, n)),
+        0x6425 => setting(sub, 16, 4, 0, ANY, Home::InputChannel(index, n)),
+        0x6426 => setting(sub, 16, 4, 0, ANY, Home::InputChannel(index, n)),
+        0x6427 => setting(sub, 16, 4, 0, ANY, Home::InputChannel(index, n)),
+        0x6428 => setting(sub, 16, 4, 0, ANY, Home::InputChannel(index, n)),
+        0x6443 => setting(sub, 8, 1, 0, 1, Home::OutputChannel(index, n)),
+        0x6444 => short(sub, 8, Home::OutputChannel(index, n)),
+        _ => absent(NO_OBJECT),
     }
-    if index == 0x6422 {
-        return counted(1, sub, Entry::Sources);
-    }
-    if index == 0x1029 {
-        return counted(1, sub, Entry::Device(index));
-    }
-    if (index == 0x1001) | (index == 0x6005) | (index == 0x6423) {
-        return single(sub, Entry::Device(index));
-    }
-    if index == 0x1000 {
-        return single(sub, Entry::Constant(4, 0x000F_0191));
-    }
-    Entry::Absent(NO_OBJECT)
 }

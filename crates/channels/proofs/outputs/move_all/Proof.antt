@@ -1,40 +1,40 @@
--- `outputs::move_all` meets its contract. The loop's invariant: the outputs below i are moved.
+-- `move_all` meets its contract. The loop's invariant: the outputs below i are moved.
 -- Assumes nothing.
-use Prim.Native.Nat.{_-_, _≤_}
+use Prim.Native.Nat.{_+_, _-_, _≤_}
 use mathlib.Core.Path.{_≡_, ap, _∙_}
 use native.Mathlib.Omega.{arith}
 use borrow.Author.Needs.{needs}
-use lib.ListN.{length}
-use Rattle.profile.specs.Analogue.{moveAnalogueOutput}
-use Rattle.channels.specs.Promises.{blankOutput}
-use Rattle.channels.proofs.Mapped.{Mapped, mapped-none, mapped-more}
+use lib.IntN.{pos}
+use denote.Ref.{now}
+use mir.Syntax.{w16}
+use mir.Val.{SFits}
+use mir.Facts.{toZ-ofZ}
+use Rattle.profile.specs.AnalogueOutput.{moveAnalogueOutput}
+use Rattle.channels.specs.View.{outputAt, Outside}
+use Rattle.channels.proofs.Sweeps.{Forward, forward-none, forward-more}
+use Rattle.channels.proofs.StoreLaws.{outside-none, outside-set, moved-here, moved-else}
 use Rattle.channels.proofs.outputs.move_all.Statement.{statement}
 use Rattle.channels.proofs.outputs.move_all.Tie as tie
 
 abbrev Inv-loop : tie.InvT-loop
-Inv-loop before after next₀ i₀ next i =
-    (i ≤ 8) × (length next₀ ≡ 8) × Mapped (λ k. moveAnalogueOutput before after) blankOutput next₀ next i
+Inv-loop flags values₀ before after i₀ values i =
+    (i ≤ 8) × Forward (λ k. moveAnalogueOutput before after) 8 (outputAt flags values₀) (outputAt flags values) i
+    × Outside 32 56 (pos 0) values₀ values
 
 abbrev μ-loop : tie.MeasureT-loop
-μ-loop before after next₀ i₀ next i = 8 - i
+μ-loop flags values₀ before after i₀ values i = 8 - i
 
 loop-holds : tie.Need-loop-holds Inv-loop μ-loop
-loop-holds c = (omega arith, search needs, mapped-none _ _ _)
+loop-holds c = (omega arith, forward-none _ _ _, outside-none)
 
-mul-old : tie.Need-mul-old Inv-loop μ-loop
-mul-old c = omega arith
-
-array-copy-out-old : tie.Need-array-copy-out-old Inv-loop μ-loop
-array-copy-out-old c = omega arith
+output-at-requires : tie.Need-output-at-requires Inv-loop μ-loop
+output-at-requires c κs = omega arith
 
 moved-requires : tie.Need-moved-requires Inv-loop μ-loop
 moved-requires c κs = search needs
 
-mul-next : tie.Need-mul-next Inv-loop μ-loop
-mul-next c = omega arith
-
-array-set-from-next : tie.Need-array-set-from-next Inv-loop μ-loop
-array-set-from-next c = omega arith
+set-driven-requires : tie.Need-set-driven-requires Inv-loop μ-loop
+set-driven-requires c κs = omega arith
 
 add-i : tie.Need-add-i Inv-loop μ-loop
 add-i c = omega arith
@@ -44,17 +44,37 @@ loop-less c = omega arith
 
 loop-again : tie.Need-loop-again Inv-loop μ-loop
 loop-again c =
-    let l = c .before .before .before in
-    let inv = l .loop .inv in
-    let same = inv .2 .high (l .loop .i) (omega arith) in (
+    let at-struct-told = c .before in
+    let at-moved = at-struct-told .before .before in
+    let at-output-at = at-moved .before in
+    let at-loop-test = at-output-at .before .before in
+    let at-loop = at-loop-test .before in
+    let at-args = at-loop .before in
+    let a = at-args .args in
+    let l = at-loop .loop in
+    let inv = l .inv in
+    let h = at-loop-test .loop-test .taken in
+    let long = inv .2 .len ∙ at-args .pre in
+    let flags = now (a .flags) in
+    let same : outputAt flags (l .values) (l .i) ≡ outputAt flags (now (a .values)) (l .i) = inv .1 .high (l .i) (omega arith) h in
+    let f : SFits w16 (at-moved .moved .result .driven) = record { sfits = at-struct-told .struct-told .given .1 .1 .1 .0 .1 } in
+    let stored = c .set-driven .ensures in (
       omega arith,
-      inv .1,
-      mapped-more _ _ _ _ _ _ (inv .2) (omega (arith, inv .1, inv .2 .len))
-          (c .moved .ensures ∙ ap (moveAnalogueOutput (l .before .args .before) (l .before .args .after)) same),
+      rw stored
+          (forward-more _ _ _ _ _ (l .i) (inv .1)
+          (moved-here flags (l .values) (l .i) _ h long (a .before) (a .after) (at-moved .moved .result) (toZ-ofZ f)
+          (rw (at-output-at .output-at .ensures) at (at-moved .moved .ensures))
+          ∙ ap (moveAnalogueOutput (a .before) (a .after)) same)
+          (moved-else flags (l .values) (l .i) _ h long)),
+      rw stored (outside-set (48 + l .i) _ (omega arith) (omega (arith, h)) (inv .2)),
     )
 
 returns : tie.Need-returns Inv-loop μ-loop
-returns c = record { channels = λ n h. c .before .loop .inv .2 .low n (omega arith) }
+returns c =
+    let at-loop = c .before in
+    let inv = at-loop .loop .inv in
+    let over = c .loop-test .left in
+    record { moved = record { channels = λ n h. inv .1 .low n (omega (arith, over)) h }; values-kept = inv .2 }
 
 pub move-all-spec : {M : Type 1} → statement M
 move-all-spec =
@@ -63,11 +83,9 @@ move-all-spec =
     Inv-loop
     μ-loop
     loop-holds
-    mul-old
-    array-copy-out-old
+    output-at-requires
     moved-requires
-    mul-next
-    array-set-from-next
+    set-driven-requires
     add-i
     loop-less
     loop-again

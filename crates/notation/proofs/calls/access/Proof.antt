@@ -22,7 +22,18 @@ hexadecimal-requires : tie.Need-hexadecimal-requires
 hexadecimal-requires c κs = search needs
 
 returns : tie.Need-returns
-returns c = λ bytes numbers events. record { is = sym (access-call (now (c .before .before .before .before .before .before .args .word)) (now (c .before .before .before .before .before .before .args .rest)) (now (c .before .before .front .result)) (c .before .before .before .until .result) (c .before .hexadecimal .result) (c .before .before .before .until .ensures) (c .before .before .front .ensures) (c .before .hexadecimal .ensures) (c .if1 .taken)); fits = tt }
+returns c =
+    let at-hexadecimal = c .before in
+    let at-front = at-hexadecimal .before in
+    let at-until = at-front .before in
+    let at-args = at-until .before .before .before in
+    λ bytes numbers events. record {
+      is = sym
+          (access-call (now (at-args .args .word)) (now (at-args .args .rest)) (now (at-front .front .result)) (at-until .until .result)
+          (at-hexadecimal .hexadecimal .result) (at-until .until .ensures) (at-front .front .ensures)
+          (at-hexadecimal .hexadecimal .ensures) (c .if1 .taken));
+      fits = tt;
+    }
 
 back-requires : tie.Need-back-requires
 back-requires c κs = c .before .before .before .until .ensures .within
@@ -31,7 +42,22 @@ sub-index-requires : tie.Need-sub-index-requires
 sub-index-requires c κs = search needs
 
 returns-2 : tie.Need-returns-2
-returns-2 c = λ bytes numbers events. record { is = sym (access-byte (now (c .before .before .before .before .before .before .before .before .before .args .word)) (now (c .before .before .before .before .before .before .before .before .before .args .rest)) (now (c .before .before .before .before .before .front .result)) (c .before .before .before .before .before .before .until .result) (c .before .before .before .before .hexadecimal .result) (c .before .before .before .before .before .before .until .ensures) (c .before .before .before .before .before .front .ensures) (c .before .before .before .before .hexadecimal .ensures) (c .before .before .before .if1 .left) (now (c .before .before .back .result)) (c .before .sub-index .result) (c .before .before .back .ensures) (c .before .sub-index .ensures) (c .if2 .taken)); fits = tt }
+returns-2 c =
+    let at-sub-index = c .before in
+    let at-back = at-sub-index .before in
+    let at-if1 = at-back .before in
+    let at-hexadecimal = at-if1 .before in
+    let at-front = at-hexadecimal .before in
+    let at-until = at-front .before in
+    let at-args = at-until .before .before .before in
+    λ bytes numbers events. record {
+      is = sym
+          (access-byte (now (at-args .args .word)) (now (at-args .args .rest)) (now (at-front .front .result)) (at-until .until .result)
+          (at-hexadecimal .hexadecimal .result) (at-until .until .ensures) (at-front .front .ensures)
+          (at-hexadecimal .hexadecimal .ensures) (at-if1 .if1 .left) (now (at-back .back .result)) (at-sub-index .sub-index .result)
+          (at-back .back .ensures) (at-sub-index .sub-index .ensures) (c .if2 .taken));
+      fits = tt;
+    }
 
 is-blank-requires : tie.Need-is-blank-requires
 is-blank-requires c κs = search needs
@@ -43,7 +69,25 @@ cast-t15 : tie.Need-cast-t15
 cast-t15 c = search needs
 
 returns-3 : tie.Need-returns-3
-returns-3 c = λ bytes numbers events. record { is = sym (access-read (now (c .before .before .before .before .before .before .before .before .before .before .before .args .word)) (now (c .before .before .before .before .before .before .before .before .before .before .before .args .rest)) (now (c .before .before .before .before .before .before .before .front .result)) (c .before .before .before .before .before .before .before .before .until .result) (c .before .before .before .before .before .before .hexadecimal .result) (c .before .before .before .before .before .before .before .before .until .ensures) (c .before .before .before .before .before .before .before .front .ensures) (c .before .before .before .before .before .before .hexadecimal .ensures) (c .before .before .before .before .before .if1 .left) (now (c .before .before .before .before .back .result)) (c .before .before .before .sub-index .result) (c .before .before .before .before .back .ensures) (c .before .before .before .sub-index .ensures) (c .before .before .if2 .left) (c .before .is-blank .result) (c .before .is-blank .ensures) (c .if3 .taken)); fits = tt }
+returns-3 c =
+    let at-is-blank = c .before in
+    let at-if2 = at-is-blank .before in
+    let at-sub-index = at-if2 .before in
+    let at-back = at-sub-index .before in
+    let at-if1 = at-back .before in
+    let at-hexadecimal = at-if1 .before in
+    let at-front = at-hexadecimal .before in
+    let at-until = at-front .before in
+    let at-args = at-until .before .before .before in
+    λ bytes numbers events. record {
+      is = sym
+          (access-read (now (at-args .args .word)) (now (at-args .args .rest)) (now (at-front .front .result)) (at-until .until .result)
+          (at-hexadecimal .hexadecimal .result) (at-until .until .ensures) (at-front .front .ensures)
+          (at-hexadecimal .hexadecimal .ensures) (at-if1 .if1 .left) (now (at-back .back .result)) (at-sub-index .sub-index .result)
+          (at-back .back .ensures) (at-sub-index .sub-index .ensures) (at-if2 .if2 .left) (at-is-blank .is-blank .result)
+          (at-is-blank .is-blank .ensures) (c .if3 .taken));
+      fits = tt;
+    }
 
 first-word-requires : tie.Need-first-word-requires
 first-word-requires c κs = search needs
@@ -55,7 +99,31 @@ same-requires : tie.Need-same-requires
 same-requires c κs = search needs
 
 returns-4 : tie.Need-returns-4
-returns-4 c = λ bytes numbers events. record { is = sym (access-data (now (c .before .before .before .before .before .before .before .before .before .before .before .before .before .before .before .args .word)) (now (c .before .before .before .before .before .before .before .before .before .before .before .before .before .before .before .args .rest)) (now (c .before .before .before .before .before .before .before .before .before .before .before .front .result)) (c .before .before .before .before .before .before .before .before .before .before .before .before .until .result) (c .before .before .before .before .before .before .before .before .before .before .hexadecimal .result) (c .before .before .before .before .before .before .before .before .before .before .before .before .until .ensures) (c .before .before .before .before .before .before .before .before .before .before .before .front .ensures) (c .before .before .before .before .before .before .before .before .before .before .hexadecimal .ensures) (c .before .before .before .before .before .before .before .before .before .if1 .left) (now (c .before .before .before .before .before .before .before .before .back .result)) (c .before .before .before .before .before .before .before .sub-index .result) (c .before .before .before .before .before .before .before .before .back .ensures) (c .before .before .before .before .before .before .before .sub-index .ensures) (c .before .before .before .before .before .before .if2 .left) (c .before .before .before .before .before .is-blank .result) (c .before .before .before .before .before .is-blank .ensures) (c .before .before .before .before .if3 .left) (now (c .before .before .before .first-word .result)) (c .before .before .before .first-word .ensures) (sym (same-word (now (c .before .before .before .first-word .result)) (ascii "=") (c .before .same .result) (c .before .same .ensures)) ∙ not-true (c .before .same .result) (c .if4 .taken))); fits = tt }
+returns-4 c =
+    let at-same = c .before in
+    let at-first-word = at-same .before .before in
+    let at-if3 = at-first-word .before in
+    let at-is-blank = at-if3 .before in
+    let at-if2 = at-is-blank .before in
+    let at-sub-index = at-if2 .before in
+    let at-back = at-sub-index .before in
+    let at-if1 = at-back .before in
+    let at-hexadecimal = at-if1 .before in
+    let at-front = at-hexadecimal .before in
+    let at-until = at-front .before in
+    let at-args = at-until .before .before .before in
+    λ bytes numbers events. record {
+      is = sym
+          (access-data (now (at-args .args .word)) (now (at-args .args .rest)) (now (at-front .front .result)) (at-until .until .result)
+          (at-hexadecimal .hexadecimal .result) (at-until .until .ensures) (at-front .front .ensures)
+          (at-hexadecimal .hexadecimal .ensures) (at-if1 .if1 .left) (now (at-back .back .result)) (at-sub-index .sub-index .result)
+          (at-back .back .ensures) (at-sub-index .sub-index .ensures) (at-if2 .if2 .left) (at-is-blank .is-blank .result)
+          (at-is-blank .is-blank .ensures) (at-if3 .if3 .left) (now (at-first-word .first-word .result))
+          (at-first-word .first-word .ensures)
+          (sym (same-word (now (at-first-word .first-word .result)) (ascii "=") (at-same .same .result) (at-same .same .ensures))
+          ∙ not-true (at-same .same .result) (c .if4 .taken)));
+      fits = tt;
+    }
 
 cast-write : tie.Need-cast-write
 cast-write c = search needs
@@ -70,7 +138,30 @@ write-requires : tie.Need-write-requires
 write-requires c κs = search needs
 
 returns-5 : tie.Need-returns-5
-returns-5 c = λ bytes numbers events. says-as (access-write (now (c .before .before .before .before .before .before .before .before .before .before .before .before .before .before .before .before .before .before .args .word)) (now (c .before .before .before .before .before .before .before .before .before .before .before .before .before .before .before .before .before .before .args .rest)) (now (c .before .before .before .before .before .before .before .before .before .before .before .before .before .before .front .result)) (c .before .before .before .before .before .before .before .before .before .before .before .before .before .before .before .until .result) (c .before .before .before .before .before .before .before .before .before .before .before .before .before .hexadecimal .result) (c .before .before .before .before .before .before .before .before .before .before .before .before .before .before .before .until .ensures) (c .before .before .before .before .before .before .before .before .before .before .before .before .before .before .front .ensures) (c .before .before .before .before .before .before .before .before .before .before .before .before .before .hexadecimal .ensures) (c .before .before .before .before .before .before .before .before .before .before .before .before .if1 .left) (now (c .before .before .before .before .before .before .before .before .before .before .before .back .result)) (c .before .before .before .before .before .before .before .before .before .before .sub-index .result) (c .before .before .before .before .before .before .before .before .before .before .before .back .ensures) (c .before .before .before .before .before .before .before .before .before .before .sub-index .ensures) (c .before .before .before .before .before .before .before .before .before .if2 .left) (c .before .before .before .before .before .before .before .before .is-blank .result) (c .before .before .before .before .before .before .before .before .is-blank .ensures) (c .before .before .before .before .before .before .before .if3 .left) (now (c .before .before .before .before .before .before .first-word .result)) (c .before .before .before .before .before .before .first-word .ensures) (now (c .before .before .after-word .result)) (c .before .before .after-word .ensures) (sym (same-word (now (c .before .before .before .before .before .before .first-word .result)) (ascii "=") (c .before .before .before .before .same .result) (c .before .before .before .before .same .ensures)) ∙ not-false (c .before .before .before .before .same .result) (c .before .before .before .if4 .left))) (c .write .ensures bytes numbers events)
+returns-5 c =
+    let at-after-word = c .before .before in
+    let at-if4 = at-after-word .before in
+    let at-same = at-if4 .before in
+    let at-first-word = at-same .before .before in
+    let at-if3 = at-first-word .before in
+    let at-is-blank = at-if3 .before in
+    let at-if2 = at-is-blank .before in
+    let at-sub-index = at-if2 .before in
+    let at-back = at-sub-index .before in
+    let at-if1 = at-back .before in
+    let at-hexadecimal = at-if1 .before in
+    let at-front = at-hexadecimal .before in
+    let at-until = at-front .before in
+    let at-args = at-until .before .before .before in
+    λ bytes numbers events. says-as
+    (access-write (now (at-args .args .word)) (now (at-args .args .rest)) (now (at-front .front .result)) (at-until .until .result)
+    (at-hexadecimal .hexadecimal .result) (at-until .until .ensures) (at-front .front .ensures)
+    (at-hexadecimal .hexadecimal .ensures) (at-if1 .if1 .left) (now (at-back .back .result)) (at-sub-index .sub-index .result)
+    (at-back .back .ensures) (at-sub-index .sub-index .ensures) (at-if2 .if2 .left) (at-is-blank .is-blank .result)
+    (at-is-blank .is-blank .ensures) (at-if3 .if3 .left) (now (at-first-word .first-word .result))
+    (at-first-word .first-word .ensures) (now (at-after-word .after-word .result)) (at-after-word .after-word .ensures)
+    (sym (same-word (now (at-first-word .first-word .result)) (ascii "=") (at-same .same .result) (at-same .same .ensures))
+    ∙ not-false (at-same .same .result) (at-if4 .if4 .left))) (c .write .ensures bytes numbers events)
 
 pub access-spec : {M : Type 1} → statement M
 access-spec =

@@ -16,7 +16,16 @@ decimal-requires : tie.Need-decimal-requires
 decimal-requires c κs = search needs
 
 returns : tie.Need-returns
-returns c = λ payload bytes numbers events. record { is = sym (command-small (now (c .before .before .before .before .args .rest)) (now (c .before .before .first-word .result)) (c .before .decimal .result) (c .before .decimal .ensures) (c .before .before .first-word .ensures) (c .if1 .taken)); fits = tt }
+returns c =
+    let at-decimal = c .before in
+    let at-first-word = at-decimal .before in
+    let at-args = at-first-word .before .before in
+    λ payload bytes numbers events. record {
+      is = sym
+          (command-small (now (at-args .args .rest)) (now (at-first-word .first-word .result)) (at-decimal .decimal .result)
+          (at-decimal .decimal .ensures) (at-first-word .first-word .ensures) (c .if1 .taken));
+      fits = tt;
+    }
 
 after-word-requires : tie.Need-after-word-requires
 after-word-requires c κs = search needs
@@ -28,7 +37,22 @@ decimal-requires-2 : tie.Need-decimal-requires-2
 decimal-requires-2 c κs = search needs
 
 returns-2 : tie.Need-returns-2
-returns-2 c = λ payload bytes numbers events. record { is = sym (command-small2 (now (c .before .before .before .before .before .before .before .before .args .rest)) (now (c .before .before .before .before .before .before .first-word .result)) (c .before .before .before .before .before .decimal .result) (c .before .before .before .before .before .decimal .ensures) (c .before .before .before .before .before .before .first-word .ensures) (now (c .before .before .before .after-word .result)) (c .before .before .before .after-word .ensures) (c .before .before .before .before .if1 .left) (now (c .before .before .first-word2 .result)) (c .before .decimal2 .result) (c .before .decimal2 .ensures) (c .before .before .first-word2 .ensures) (c .if2 .taken)); fits = tt }
+returns-2 c =
+    let at-decimal2 = c .before in
+    let at-first-word2 = at-decimal2 .before in
+    let at-after-word = at-first-word2 .before in
+    let at-if1 = at-after-word .before in
+    let at-decimal = at-if1 .before in
+    let at-first-word = at-decimal .before in
+    let at-args = at-first-word .before .before in
+    λ payload bytes numbers events. record {
+      is = sym
+          (command-small2 (now (at-args .args .rest)) (now (at-first-word .first-word .result)) (at-decimal .decimal .result)
+          (at-decimal .decimal .ensures) (at-first-word .first-word .ensures) (now (at-after-word .after-word .result))
+          (at-after-word .after-word .ensures) (at-if1 .if1 .left) (now (at-first-word2 .first-word2 .result))
+          (at-decimal2 .decimal2 .result) (at-decimal2 .decimal2 .ensures) (at-first-word2 .first-word2 .ensures) (c .if2 .taken));
+      fits = tt;
+    }
 
 after-word-requires-2 : tie.Need-after-word-requires-2
 after-word-requires-2 c κs = search needs
@@ -37,7 +61,27 @@ is-blank-requires : tie.Need-is-blank-requires
 is-blank-requires c κs = search needs
 
 returns-3 : tie.Need-returns-3
-returns-3 c = λ payload bytes numbers events. record { is = sym (command-more (now (c .before .before .before .before .before .before .before .before .before .before .before .args .rest)) (now (c .before .before .before .before .before .before .before .before .before .first-word .result)) (c .before .before .before .before .before .before .before .before .decimal .result) (c .before .before .before .before .before .before .before .before .decimal .ensures) (c .before .before .before .before .before .before .before .before .before .first-word .ensures) (now (c .before .before .before .before .before .before .after-word .result)) (c .before .before .before .before .before .before .after-word .ensures) (c .before .before .before .before .before .before .before .if1 .left) (now (c .before .before .before .before .before .first-word2 .result)) (c .before .before .before .before .decimal2 .result) (c .before .before .before .before .decimal2 .ensures) (c .before .before .before .before .before .first-word2 .ensures) (now (c .before .before .after-word2 .result)) (c .before .before .after-word2 .ensures) (c .before .before .before .if2 .left) (c .before .is-blank .result) (c .before .is-blank .ensures) (not-true (c .before .is-blank .result) (c .if3 .taken))); fits = tt }
+returns-3 c =
+    let at-is-blank = c .before in
+    let at-after-word2 = at-is-blank .before in
+    let at-if2 = at-after-word2 .before in
+    let at-decimal2 = at-if2 .before in
+    let at-first-word2 = at-decimal2 .before in
+    let at-after-word = at-first-word2 .before in
+    let at-if1 = at-after-word .before in
+    let at-decimal = at-if1 .before in
+    let at-first-word = at-decimal .before in
+    let at-args = at-first-word .before .before in
+    λ payload bytes numbers events. record {
+      is = sym
+          (command-more (now (at-args .args .rest)) (now (at-first-word .first-word .result)) (at-decimal .decimal .result)
+          (at-decimal .decimal .ensures) (at-first-word .first-word .ensures) (now (at-after-word .after-word .result))
+          (at-after-word .after-word .ensures) (at-if1 .if1 .left) (now (at-first-word2 .first-word2 .result))
+          (at-decimal2 .decimal2 .result) (at-decimal2 .decimal2 .ensures) (at-first-word2 .first-word2 .ensures)
+          (now (at-after-word2 .after-word2 .result)) (at-after-word2 .after-word2 .ensures) (at-if2 .if2 .left)
+          (at-is-blank .is-blank .result) (at-is-blank .is-blank .ensures) (not-true (at-is-blank .is-blank .result) (c .if3 .taken)));
+      fits = tt;
+    }
 
 cast-t13 : tie.Need-cast-t13
 cast-t13 c = search needs
@@ -46,7 +90,27 @@ cast-t14 : tie.Need-cast-t14
 cast-t14 c = search needs
 
 returns-4 : tie.Need-returns-4
-returns-4 c = λ payload bytes numbers events. record { is = sym (command-is (now (c .before .before .before .before .before .before .before .before .before .before .before .args .rest)) (now (c .before .before .before .before .before .before .before .before .before .first-word .result)) (c .before .before .before .before .before .before .before .before .decimal .result) (c .before .before .before .before .before .before .before .before .decimal .ensures) (c .before .before .before .before .before .before .before .before .before .first-word .ensures) (now (c .before .before .before .before .before .before .after-word .result)) (c .before .before .before .before .before .before .after-word .ensures) (c .before .before .before .before .before .before .before .if1 .left) (now (c .before .before .before .before .before .first-word2 .result)) (c .before .before .before .before .decimal2 .result) (c .before .before .before .before .decimal2 .ensures) (c .before .before .before .before .before .first-word2 .ensures) (now (c .before .before .after-word2 .result)) (c .before .before .after-word2 .ensures) (c .before .before .before .if2 .left) (c .before .is-blank .result) (c .before .is-blank .ensures) (not-false (c .before .is-blank .result) (c .if3 .left))); fits = tt }
+returns-4 c =
+    let at-is-blank = c .before in
+    let at-after-word2 = at-is-blank .before in
+    let at-if2 = at-after-word2 .before in
+    let at-decimal2 = at-if2 .before in
+    let at-first-word2 = at-decimal2 .before in
+    let at-after-word = at-first-word2 .before in
+    let at-if1 = at-after-word .before in
+    let at-decimal = at-if1 .before in
+    let at-first-word = at-decimal .before in
+    let at-args = at-first-word .before .before in
+    λ payload bytes numbers events. record {
+      is = sym
+          (command-is (now (at-args .args .rest)) (now (at-first-word .first-word .result)) (at-decimal .decimal .result)
+          (at-decimal .decimal .ensures) (at-first-word .first-word .ensures) (now (at-after-word .after-word .result))
+          (at-after-word .after-word .ensures) (at-if1 .if1 .left) (now (at-first-word2 .first-word2 .result))
+          (at-decimal2 .decimal2 .result) (at-decimal2 .decimal2 .ensures) (at-first-word2 .first-word2 .ensures)
+          (now (at-after-word2 .after-word2 .result)) (at-after-word2 .after-word2 .ensures) (at-if2 .if2 .left)
+          (at-is-blank .is-blank .result) (at-is-blank .is-blank .ensures) (not-false (at-is-blank .is-blank .result) (c .if3 .left)));
+      fits = tt;
+    }
 
 pub command-spec : {M : Type 1} → statement M
 command-spec =

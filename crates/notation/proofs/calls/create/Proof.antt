@@ -16,7 +16,16 @@ decimal-requires : tie.Need-decimal-requires
 decimal-requires c κs = search needs
 
 returns : tie.Need-returns
-returns c = λ payload bytes numbers events. record { is = sym (create-small (now (c .before .before .before .before .args .rest)) (now (c .before .before .first-word .result)) (c .before .decimal .result) (c .before .decimal .ensures) (c .before .before .first-word .ensures) (c .if1 .taken)); fits = tt }
+returns c =
+    let at-decimal = c .before in
+    let at-first-word = at-decimal .before in
+    let at-args = at-first-word .before .before in
+    λ payload bytes numbers events. record {
+      is = sym
+          (create-small (now (at-args .args .rest)) (now (at-first-word .first-word .result)) (at-decimal .decimal .result)
+          (at-decimal .decimal .ensures) (at-first-word .first-word .ensures) (c .if1 .taken));
+      fits = tt;
+    }
 
 after-word-requires : tie.Need-after-word-requires
 after-word-requires c κs = search needs
@@ -25,13 +34,41 @@ is-blank-requires : tie.Need-is-blank-requires
 is-blank-requires c κs = search needs
 
 returns-2 : tie.Need-returns-2
-returns-2 c = λ payload bytes numbers events. record { is = sym (create-more (now (c .before .before .before .before .before .before .before .args .rest)) (now (c .before .before .before .before .before .first-word .result)) (c .before .before .before .before .decimal .result) (c .before .before .before .before .decimal .ensures) (c .before .before .before .before .before .first-word .ensures) (now (c .before .before .after-word .result)) (c .before .before .after-word .ensures) (c .before .before .before .if1 .left) (c .before .is-blank .result) (c .before .is-blank .ensures) (not-true (c .before .is-blank .result) (c .if2 .taken))); fits = tt }
+returns-2 c =
+    let at-is-blank = c .before in
+    let at-after-word = at-is-blank .before in
+    let at-if1 = at-after-word .before in
+    let at-decimal = at-if1 .before in
+    let at-first-word = at-decimal .before in
+    let at-args = at-first-word .before .before in
+    λ payload bytes numbers events. record {
+      is = sym
+          (create-more (now (at-args .args .rest)) (now (at-first-word .first-word .result)) (at-decimal .decimal .result)
+          (at-decimal .decimal .ensures) (at-first-word .first-word .ensures) (now (at-after-word .after-word .result))
+          (at-after-word .after-word .ensures) (at-if1 .if1 .left) (at-is-blank .is-blank .result) (at-is-blank .is-blank .ensures)
+          (not-true (at-is-blank .is-blank .result) (c .if2 .taken)));
+      fits = tt;
+    }
 
 cast-t9 : tie.Need-cast-t9
 cast-t9 c = search needs
 
 returns-3 : tie.Need-returns-3
-returns-3 c = λ payload bytes numbers events. record { is = sym (create-is (now (c .before .before .before .before .before .before .before .args .rest)) (now (c .before .before .before .before .before .first-word .result)) (c .before .before .before .before .decimal .result) (c .before .before .before .before .decimal .ensures) (c .before .before .before .before .before .first-word .ensures) (now (c .before .before .after-word .result)) (c .before .before .after-word .ensures) (c .before .before .before .if1 .left) (c .before .is-blank .result) (c .before .is-blank .ensures) (not-false (c .before .is-blank .result) (c .if2 .left))); fits = tt }
+returns-3 c =
+    let at-is-blank = c .before in
+    let at-after-word = at-is-blank .before in
+    let at-if1 = at-after-word .before in
+    let at-decimal = at-if1 .before in
+    let at-first-word = at-decimal .before in
+    let at-args = at-first-word .before .before in
+    λ payload bytes numbers events. record {
+      is = sym
+          (create-is (now (at-args .args .rest)) (now (at-first-word .first-word .result)) (at-decimal .decimal .result)
+          (at-decimal .decimal .ensures) (at-first-word .first-word .ensures) (now (at-after-word .after-word .result))
+          (at-after-word .after-word .ensures) (at-if1 .if1 .left) (at-is-blank .is-blank .result) (at-is-blank .is-blank .ensures)
+          (not-false (at-is-blank .is-blank .result) (c .if2 .left)));
+      fits = tt;
+    }
 
 pub create-spec : {M : Type 1} → statement M
 create-spec =

@@ -23,7 +23,15 @@ is-blank-requires : tie.Need-is-blank-requires
 is-blank-requires c κs = search needs
 
 returns : tie.Need-returns
-returns c = λ payload events. record { is = ap (λ (l : List ℕ). call (Doc.Call.drive (take 16 l) (take 8 (now (c .before .before .before .args .numbers))))) (c .before .before .before .pre .0) ∙ ap (λ (l : List ℤ). call (Doc.Call.drive (take 16 (replicate 64 0)) (take 8 l))) (c .before .before .before .pre .1) ∙ sym (drive-alone (now (c .before .before .before .args .rest)) (c .before .is-blank .result) (c .before .is-blank .ensures) (c .if1 .taken)); fits = (omega arith, omega arith) }
+returns c = λ payload events. record {
+  is = ap
+      (λ (l : List ℕ). call (Doc.Call.drive (take 16 l) (take 8 (now (c .before .before .before .args .numbers)))))
+      (c .before .before .before .pre .0) ∙ ap (λ (l : List ℤ). call (Doc.Call.drive (take 16 (replicate 64 0)) (take 8 l)))
+      (c .before .before .before .pre .1) ∙ sym
+      (drive-alone (now (c .before .before .before .args .rest)) (c .before .is-blank .result) (c .before .is-blank .ensures)
+      (c .if1 .taken));
+  fits = (omega arith, omega arith);
+}
 
 read-bytes-requires : tie.Need-read-bytes-requires
 read-bytes-requires c κs = search needs
@@ -35,31 +43,97 @@ enum-known-lines : tie.Need-enum-known-lines
 enum-known-lines c = search needs
 
 back-requires : tie.Need-back-requires
-back-requires c κs = (subst (λ (x : Items). ReadInto byteItem (now (c .before .before .before .before .before .before .before .before .args .rest)) (c .before .before .before .read-bytes .last .1 .0) x) (c .before .lines .given .1) (c .before .before .before .read-bytes .ensures)) .within
+back-requires c κs =
+    let at-lines = c .before in
+    let at-read-bytes = at-lines .before .before in
+    let at-args = at-read-bytes .before .before .before .before .before in
+    (subst (λ (x : Items). ReadInto byteItem (now (at-args .args .rest)) (at-read-bytes .read-bytes .last .1 .0) x)
+    (at-lines .lines .given .1) (at-read-bytes .read-bytes .ensures)) .within
 
 is-blank-requires-2 : tie.Need-is-blank-requires-2
 is-blank-requires-2 c κs = search needs
 
 returns-2 : tie.Need-returns-2
-returns-2 c = λ payload events. record { is = sym (drive-parts (now (c .before .before .before .before .before .before .before .before .before .before .before .args .rest)) (c .before .before .before .before .before .before .before .before .before .is-blank .result) (c .before .before .before .before .before .before .before .before .before .is-blank .ensures) (c .before .before .before .before .before .before .before .before .if1 .left) ∙ ap linesMeaning (found-end _ _ _ (read-found byteItem (now (c .before .before .before .before .before .before .before .before .before .before .before .args .rest)) (c .before .before .before .before .before .before .read-bytes .last .1 .0) 64 (omega (arith, c .before .before .before .before .before .before .read-bytes .kept .1 .0)) (c .before .before .before .before .lines .given .0 .0) (c .before .before .before .before .lines .given .0 .1 .0) (now (c .before .before .back .result)) (subst (λ (x : Items). ReadInto byteItem (now (c .before .before .before .before .before .before .before .before .before .before .before .args .rest)) (c .before .before .before .before .before .before .read-bytes .last .1 .0) x) (c .before .before .before .before .lines .given .1) (c .before .before .before .before .before .before .read-bytes .ensures)) (c .before .before .back .ensures)) (blank (now (c .before .before .back .result)) (c .before .is-blank2 .result) (c .before .is-blank2 .ensures) (c .if2 .taken)))); fits = tt }
+returns-2 c =
+    let at-is-blank2 = c .before in
+    let at-back = at-is-blank2 .before in
+    let at-lines = at-back .before .before in
+    let at-read-bytes = at-lines .before .before in
+    let at-if1 = at-read-bytes .before .before in
+    let at-is-blank = at-if1 .before in
+    let at-args = at-is-blank .before .before in
+    λ payload events. record {
+      is = sym
+          (drive-parts (now (at-args .args .rest)) (at-is-blank .is-blank .result) (at-is-blank .is-blank .ensures) (at-if1 .if1 .left)
+          ∙ ap linesMeaning (found-end _ _ _
+          (read-found byteItem (now (at-args .args .rest)) (at-read-bytes .read-bytes .last .1 .0) 64
+          (omega (arith, at-read-bytes .read-bytes .kept .1 .0, at-read-bytes .before .read-bytes-arg .given .0))
+          (at-lines .lines .given .0 .0) (at-lines .lines .given .0 .1 .0)
+          (now (at-back .back .result))
+          (subst (λ (x : Items). ReadInto byteItem (now (at-args .args .rest)) (at-read-bytes .read-bytes .last .1 .0) x)
+          (at-lines .lines .given .1) (at-read-bytes .read-bytes .ensures)) (at-back .back .ensures))
+          (blank (now (at-back .back .result)) (at-is-blank2 .is-blank2 .result) (at-is-blank2 .is-blank2 .ensures) (c .if2 .taken))));
+      fits = tt;
+    }
 
 after-word-requires : tie.Need-after-word-requires
 after-word-requires c κs = search needs
 
 driven-requires : tie.Need-driven-requires
-driven-requires c κs = omega (arith, (subst (λ (x : Items). ReadInto byteItem (now (c .before .before .before .before .before .before .before .before .before .before .before .before .before .args .rest)) (c .before .before .before .before .before .before .before .before .read-bytes .last .1 .0) x) (c .before .before .before .before .before .before .lines .given .1) (c .before .before .before .before .before .before .before .before .read-bytes .ensures)) .room, c .before .before .before .before .before .before .before .before .read-bytes .kept .1 .0)
+driven-requires c κs =
+    let at-lines = c .before .before .before .before .before .before in
+    let at-read-bytes = at-lines .before .before in
+    let at-args = at-read-bytes .before .before .before .before .before in
+    omega (
+      arith,
+      (subst (λ (x : Items). ReadInto byteItem (now (at-args .args .rest)) (at-read-bytes .read-bytes .last .1 .0) x)
+          (at-lines .lines .given .1) (at-read-bytes .read-bytes .ensures)) .room,
+      at-read-bytes .read-bytes .kept .1 .0,
+      at-read-bytes .before .read-bytes-arg .given .0,
+    )
 
 returns-3 : tie.Need-returns-3
-returns-3 c = λ payload events. record { is = sym (drive-parts (now (c .before .before .before .before .before .before .before .before .args .rest)) (c .before .before .before .before .before .before .is-blank .result) (c .before .before .before .before .before .before .is-blank .ensures) (c .before .before .before .before .before .if1 .left) ∙ ap linesMeaning (read-missing byteItem (now (c .before .before .before .before .before .before .before .before .args .rest)) (c .before .before .before .read-bytes .last .1 .0) 64 (omega (arith, c .before .before .before .read-bytes .kept .1 .0)) _ (subst (λ (x : Items). ReadInto byteItem (now (c .before .before .before .before .before .before .before .before .args .rest)) (c .before .before .before .read-bytes .last .1 .0) x) (c .before .expected .given .1) (c .before .before .before .read-bytes .ensures)))); fits = tt }
+returns-3 c =
+    let at-expected = c .before in
+    let at-read-bytes = at-expected .before .before in
+    let at-if1 = at-read-bytes .before .before in
+    let at-is-blank = at-if1 .before in
+    let at-args = at-is-blank .before .before in
+    λ payload events. record {
+      is = sym
+          (drive-parts (now (at-args .args .rest)) (at-is-blank .is-blank .result) (at-is-blank .is-blank .ensures) (at-if1 .if1 .left)
+          ∙ ap linesMeaning (read-missing byteItem (now (at-args .args .rest)) (at-read-bytes .read-bytes .last .1 .0) 64
+          (omega (arith, at-read-bytes .read-bytes .kept .1 .0, at-read-bytes .before .read-bytes-arg .given .0)) _
+          (subst (λ (x : Items). ReadInto byteItem (now (at-args .args .rest)) (at-read-bytes .read-bytes .last .1 .0) x)
+          (at-expected .expected .given .1) (at-read-bytes .read-bytes .ensures))));
+      fits = tt;
+    }
 
 returns-4 : tie.Need-returns-4
 returns-4 c =
+    let at-after-word = c .before .before in
+    let at-if2 = at-after-word .before in
+    let at-is-blank2 = at-if2 .before in
+    let at-back = at-is-blank2 .before in
+    let at-lines = at-back .before .before in
+    let at-read-bytes = at-lines .before .before in
+    let at-if1 = at-read-bytes .before .before in
+    let at-is-blank = at-if1 .before in
+    let at-args = at-is-blank .before .before in
     λ payload events.
     says-as
-    (drive-parts (now (c .before .before .before .before .before .before .before .before .before .before .before .before .before .before .args .rest)) (c .before .before .before .before .before .before .before .before .before .before .before .before .is-blank .result) (c .before .before .before .before .before .before .before .before .before .before .before .before .is-blank .ensures) (c .before .before .before .before .before .before .before .before .before .before .before .if1 .left)
-    ∙ ap linesMeaning (found-more _ _ _ (read-found byteItem (now (c .before .before .before .before .before .before .before .before .before .before .before .before .before .before .args .rest)) (c .before .before .before .before .before .before .before .before .before .read-bytes .last .1 .0) 64 (omega (arith, c .before .before .before .before .before .before .before .before .before .read-bytes .kept .1 .0)) (c .before .before .before .before .before .before .before .lines .given .0 .0) (c .before .before .before .before .before .before .before .lines .given .0 .1 .0) (now (c .before .before .before .before .before .back .result)) (subst (λ (x : Items). ReadInto byteItem (now (c .before .before .before .before .before .before .before .before .before .before .before .before .before .before .args .rest)) (c .before .before .before .before .before .before .before .before .before .read-bytes .last .1 .0) x) (c .before .before .before .before .before .before .before .lines .given .1) (c .before .before .before .before .before .before .before .before .before .read-bytes .ensures)) (c .before .before .before .before .before .back .ensures)) (not-blank (now (c .before .before .before .before .before .back .result)) (c .before .before .before .before .is-blank2 .result) (c .before .before .before .before .is-blank2 .ensures) (c .before .before .before .if2 .left)))
-    ∙ ap (λ (l : List ℕ). channelsMeaning (take (c .before .before .before .before .before .before .before .lines .given .0 .0) (c .before .before .before .before .before .before .before .before .before .read-bytes .last .1 .0)) (itemsOf numberItem 64 (wordsOf l))) (sym (c .before .before .after-word .ensures)))
-    (c .driven .ensures payload (c .before .before .before .before .before .before .before .before .before .read-bytes .last .1 .0) events)
+    (drive-parts (now (at-args .args .rest)) (at-is-blank .is-blank .result) (at-is-blank .is-blank .ensures) (at-if1 .if1 .left)
+    ∙ ap linesMeaning (found-more _ _ _
+    (read-found byteItem (now (at-args .args .rest)) (at-read-bytes .read-bytes .last .1 .0) 64
+    (omega (arith, at-read-bytes .read-bytes .kept .1 .0, at-read-bytes .before .read-bytes-arg .given .0))
+    (at-lines .lines .given .0 .0) (at-lines .lines .given .0 .1 .0)
+    (now (at-back .back .result))
+    (subst (λ (x : Items). ReadInto byteItem (now (at-args .args .rest)) (at-read-bytes .read-bytes .last .1 .0) x)
+    (at-lines .lines .given .1) (at-read-bytes .read-bytes .ensures)) (at-back .back .ensures))
+    (not-blank (now (at-back .back .result)) (at-is-blank2 .is-blank2 .result) (at-is-blank2 .is-blank2 .ensures) (at-if2 .if2 .left)))
+    ∙ ap (λ (l : List ℕ). channelsMeaning (take (at-lines .lines .given .0 .0) (at-read-bytes .read-bytes .last .1 .0))
+    (itemsOf numberItem 64 (wordsOf l))) (sym (at-after-word .after-word .ensures)))
+    (c .driven .ensures payload (at-read-bytes .read-bytes .last .1 .0) events)
 
 pub drive-spec : {M : Type 1} → statement M
 drive-spec =

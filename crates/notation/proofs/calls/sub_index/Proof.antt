@@ -17,7 +17,12 @@ hexadecimal-requires : tie.Need-hexadecimal-requires
 hexadecimal-requires c κs = search needs
 
 returns-2 : tie.Need-returns-2
-returns-2 c = sub-some (now (c .before .before .before .before .args .word)) (now (c .before .without-first .result)) (c .hexadecimal .result) (c .before .before .if1 .left) (c .before .without-first .ensures) (c .hexadecimal .ensures)
+returns-2 c =
+    let at-without-first = c .before in
+    let at-if1 = at-without-first .before in
+    let at-args = at-if1 .before .before in
+    sub-some (now (at-args .args .word)) (now (at-without-first .without-first .result)) (c .hexadecimal .result) (at-if1 .if1 .left)
+    (at-without-first .without-first .ensures) (c .hexadecimal .ensures)
 
 pub sub-index-spec : {M : Type 1} → statement M
 sub-index-spec = tie.close (tie.spec returns without-first-requires hexadecimal-requires returns-2)

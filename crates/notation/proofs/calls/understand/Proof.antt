@@ -23,7 +23,17 @@ after-word-requires : tie.Need-after-word-requires
 after-word-requires c κs = search needs
 
 returns : tie.Need-returns
-returns c = record { is = sym (means-nothing (now (c .before .before .before .before .before .args .line)) (now (c .before .before .before .content .result)) (now (c .before .before .first-word .result)) (now (c .before .after-word .result)) (c .before .before .before .content .ensures) (c .before .before .first-word .ensures) (c .before .after-word .ensures) (c .if1 .taken)); fits = tt }
+returns c =
+    let at-after-word = c .before in
+    let at-first-word = at-after-word .before in
+    let at-content = at-first-word .before in
+    let at-args = at-content .before .before in
+    record {
+      is = sym (means-nothing (now (at-args .args .line)) (now (at-content .content .result))
+          (now (at-first-word .first-word .result)) (now (at-after-word .after-word .result)) (at-content .content .ensures)
+          (at-first-word .first-word .ensures) (at-after-word .after-word .ensures) (c .if1 .taken));
+      fits = tt;
+    }
 
 slice-aggregate-same : tie.Need-slice-aggregate-same
 slice-aggregate-same c = search needs
@@ -32,11 +42,26 @@ same-requires : tie.Need-same-requires
 same-requires c κs = search needs
 
 sample-requires : tie.Need-sample-requires
-sample-requires c κs = c .before .before .before .before .before .before .before .before .before .before .before .pre .2
+sample-requires c κs =
+    let at-pre = c .before .before .before .before .before .before .before .before .before .before .before in
+    at-pre .pre .2
 
 returns-2 : tie.Need-returns-2
 unfolding wordsMeaning
-returns-2 c = says-as (means (now (c .before .before .before .before .before .before .before .before .before .before .before .before .args .line)) (now (c .before .before .before .before .before .before .before .before .before .before .content .result)) (now (c .before .before .before .before .before .before .before .before .before .first-word .result)) (now (c .before .before .before .before .before .before .before .before .after-word .result)) (c .before .before .before .before .before .before .before .before .before .before .content .ensures) (c .before .before .before .before .before .before .before .before .before .first-word .ensures) (c .before .before .before .before .before .before .before .before .after-word .ensures) (c .before .before .before .before .before .before .before .if1 .left) ∙ yes (isWord (now (c .before .before .before .before .before .before .before .before .before .first-word .result)) (ascii "sample")) _ _ (sym (same-word (now (c .before .before .before .before .before .before .before .before .before .first-word .result)) (ascii "sample") (c .before .before .before .before .before .same .result) (c .before .before .before .before .before .same .ensures)) ∙ c .before .before .before .before .if2 .taken)) (c .sample .ensures _)
+returns-2 c =
+    let at-if2 = c .before .before .before .before in
+    let at-same = at-if2 .before in
+    let at-if1 = at-same .before .before in
+    let at-after-word = at-if1 .before in
+    let at-first-word = at-after-word .before in
+    let at-content = at-first-word .before in
+    let at-args = at-content .before .before in
+    says-as (means (now (at-args .args .line)) (now (at-content .content .result)) (now (at-first-word .first-word .result))
+    (now (at-after-word .after-word .result)) (at-content .content .ensures) (at-first-word .first-word .ensures)
+    (at-after-word .after-word .ensures) (at-if1 .if1 .left) ∙ yes
+    (isWord (now (at-first-word .first-word .result)) (ascii "sample")) _ _
+    (sym (same-word (now (at-first-word .first-word .result)) (ascii "sample") (at-same .same .result) (at-same .same .ensures))
+    ∙ at-if2 .if2 .taken)) (c .sample .ensures _)
 
 slice-aggregate-same-2 : tie.Need-slice-aggregate-same-2
 slice-aggregate-same-2 c = search needs
@@ -45,18 +70,54 @@ same-requires-2 : tie.Need-same-requires-2
 same-requires-2 c κs = search needs
 
 drive-requires : tie.Need-drive-requires
-drive-requires c κs = (c .before .before .before .before .before .before .before .before .before .before .before .before .before .pre .0, c .before .before .before .before .before .before .before .before .before .before .before .before .before .pre .1)
+drive-requires c κs =
+    let at-pre = c .before .before .before .before .before .before .before .before .before .before .before .before .before in
+    (at-pre .pre .0, at-pre .pre .1)
 
 returns-3 : tie.Need-returns-3
 unfolding wordsMeaning
-returns-3 c = says-as (means (now (c .before .before .before .before .before .before .before .before .before .before .before .before .before .before .args .line)) (now (c .before .before .before .before .before .before .before .before .before .before .before .before .content .result)) (now (c .before .before .before .before .before .before .before .before .before .before .before .first-word .result)) (now (c .before .before .before .before .before .before .before .before .before .before .after-word .result)) (c .before .before .before .before .before .before .before .before .before .before .before .before .content .ensures) (c .before .before .before .before .before .before .before .before .before .before .before .first-word .ensures) (c .before .before .before .before .before .before .before .before .before .before .after-word .ensures) (c .before .before .before .before .before .before .before .before .before .if1 .left) ∙ no (isWord (now (c .before .before .before .before .before .before .before .before .before .before .before .first-word .result)) (ascii "sample")) _ _ (sym (same-word (now (c .before .before .before .before .before .before .before .before .before .before .before .first-word .result)) (ascii "sample") (c .before .before .before .before .before .before .before .same .result) (c .before .before .before .before .before .before .before .same .ensures)) ∙ c .before .before .before .before .before .before .if2 .left) ∙ yes (isWord (now (c .before .before .before .before .before .before .before .before .before .before .before .first-word .result)) (ascii "drive")) _ _ (sym (same-word (now (c .before .before .before .before .before .before .before .before .before .before .before .first-word .result)) (ascii "drive") (c .before .before .before .before .same2 .result) (c .before .before .before .before .same2 .ensures)) ∙ c .before .before .before .if3 .taken)) (c .drive .ensures _ _)
+returns-3 c =
+    let at-if3 = c .before .before .before in
+    let at-same2 = at-if3 .before in
+    let at-if2 = at-same2 .before .before in
+    let at-same = at-if2 .before in
+    let at-if1 = at-same .before .before in
+    let at-after-word = at-if1 .before in
+    let at-first-word = at-after-word .before in
+    let at-content = at-first-word .before in
+    let at-args = at-content .before .before in
+    says-as (means (now (at-args .args .line)) (now (at-content .content .result)) (now (at-first-word .first-word .result))
+    (now (at-after-word .after-word .result)) (at-content .content .ensures) (at-first-word .first-word .ensures)
+    (at-after-word .after-word .ensures) (at-if1 .if1 .left) ∙ no
+    (isWord (now (at-first-word .first-word .result)) (ascii "sample")) _ _
+    (sym (same-word (now (at-first-word .first-word .result)) (ascii "sample") (at-same .same .result) (at-same .same .ensures))
+    ∙ at-if2 .if2 .left) ∙ yes (isWord (now (at-first-word .first-word .result)) (ascii "drive")) _ _
+    (sym (same-word (now (at-first-word .first-word .result)) (ascii "drive") (at-same2 .same2 .result) (at-same2 .same2 .ensures))
+    ∙ at-if3 .if3 .taken)) (c .drive .ensures _ _)
 
 plain-call-requires : tie.Need-plain-call-requires
 plain-call-requires c κs = search needs
 
 returns-4 : tie.Need-returns-4
 unfolding wordsMeaning
-returns-4 c = says-as (means (now (c .before .before .before .before .before .before .before .before .before .before .before .before .before .args .line)) (now (c .before .before .before .before .before .before .before .before .before .before .before .content .result)) (now (c .before .before .before .before .before .before .before .before .before .before .first-word .result)) (now (c .before .before .before .before .before .before .before .before .before .after-word .result)) (c .before .before .before .before .before .before .before .before .before .before .before .content .ensures) (c .before .before .before .before .before .before .before .before .before .before .first-word .ensures) (c .before .before .before .before .before .before .before .before .before .after-word .ensures) (c .before .before .before .before .before .before .before .before .if1 .left) ∙ no (isWord (now (c .before .before .before .before .before .before .before .before .before .before .first-word .result)) (ascii "sample")) _ _ (sym (same-word (now (c .before .before .before .before .before .before .before .before .before .before .first-word .result)) (ascii "sample") (c .before .before .before .before .before .before .same .result) (c .before .before .before .before .before .before .same .ensures)) ∙ c .before .before .before .before .before .if2 .left) ∙ no (isWord (now (c .before .before .before .before .before .before .before .before .before .before .first-word .result)) (ascii "drive")) _ _ (sym (same-word (now (c .before .before .before .before .before .before .before .before .before .before .first-word .result)) (ascii "drive") (c .before .before .before .same2 .result) (c .before .before .before .same2 .ensures)) ∙ c .before .before .if3 .left)) (c .plain-call .ensures _ _ _)
+returns-4 c =
+    let at-if3 = c .before .before in
+    let at-same2 = at-if3 .before in
+    let at-if2 = at-same2 .before .before in
+    let at-same = at-if2 .before in
+    let at-if1 = at-same .before .before in
+    let at-after-word = at-if1 .before in
+    let at-first-word = at-after-word .before in
+    let at-content = at-first-word .before in
+    let at-args = at-content .before .before in
+    says-as (means (now (at-args .args .line)) (now (at-content .content .result)) (now (at-first-word .first-word .result))
+    (now (at-after-word .after-word .result)) (at-content .content .ensures) (at-first-word .first-word .ensures)
+    (at-after-word .after-word .ensures) (at-if1 .if1 .left) ∙ no
+    (isWord (now (at-first-word .first-word .result)) (ascii "sample")) _ _
+    (sym (same-word (now (at-first-word .first-word .result)) (ascii "sample") (at-same .same .result) (at-same .same .ensures))
+    ∙ at-if2 .if2 .left) ∙ no (isWord (now (at-first-word .first-word .result)) (ascii "drive")) _ _
+    (sym (same-word (now (at-first-word .first-word .result)) (ascii "drive") (at-same2 .same2 .result) (at-same2 .same2 .ensures))
+    ∙ at-if3 .if3 .left)) (c .plain-call .ensures _ _ _)
 
 pub understand-spec : {M : Type 1} → statement M
 understand-spec =

@@ -24,19 +24,75 @@ enum-known-count : tie.Need-enum-known-count
 enum-known-count c = search needs
 
 back-requires : tie.Need-back-requires
-back-requires c κs = (subst (λ (x : Items). ReadInto byteItem (now (c .before .before .before .before .before .before .args .rest)) (c .before .before .before .read-bytes .last .1 .0) x) (c .before .count .given .1) (c .before .before .before .read-bytes .ensures)) .within
+back-requires c κs =
+    let at-count = c .before in
+    let at-read-bytes = at-count .before .before in
+    let at-args = at-read-bytes .before .before .before in
+    (subst (λ (x : Items). ReadInto byteItem (now (at-args .args .rest)) (at-read-bytes .read-bytes .last .1 .0) x)
+    (at-count .count .given .1) (at-read-bytes .read-bytes .ensures)) .within
 
 is-blank-requires : tie.Need-is-blank-requires
 is-blank-requires c κs = search needs
 
 returns : tie.Need-returns
-returns c = λ bytes numbers events. record { is = sym (ap (writeMeaning (c .before .before .before .before .before .before .before .before .before .args .index) (c .before .before .before .before .before .before .before .before .before .args .sub)) (found-more _ _ _ (read-found byteItem (now (c .before .before .before .before .before .before .before .before .before .args .rest)) (c .before .before .before .before .before .before .read-bytes .last .1 .0) 512 (omega (arith, c .before .before .before .before .before .before .read-bytes .kept .1 .0)) (c .before .before .before .before .count .given .0 .0) (c .before .before .before .before .count .given .0 .1 .0) (now (c .before .before .back .result)) (subst (λ (x : Items). ReadInto byteItem (now (c .before .before .before .before .before .before .before .before .before .args .rest)) (c .before .before .before .before .before .before .read-bytes .last .1 .0) x) (c .before .before .before .before .count .given .1) (c .before .before .before .before .before .before .read-bytes .ensures)) (c .before .before .back .ensures)) (not-blank (now (c .before .before .back .result)) (c .before .is-blank .result) (c .before .is-blank .ensures) (not-true (c .before .is-blank .result) (c .if1 .taken))))); fits = tt }
+returns c =
+    let at-is-blank = c .before in
+    let at-back = at-is-blank .before in
+    let at-count = at-back .before .before in
+    let at-read-bytes = at-count .before .before in
+    let at-args = at-read-bytes .before .before .before in
+    λ bytes numbers events. record {
+      is = sym
+          (ap (writeMeaning (at-args .args .index) (at-args .args .sub))
+          (found-more _ _ _ (read-found byteItem (now (at-args .args .rest)) (at-read-bytes .read-bytes .last .1 .0) 512
+          (omega (arith, at-read-bytes .read-bytes .kept .1 .0)) (at-count .count .given .0 .0) (at-count .count .given .0 .1 .0)
+          (now (at-back .back .result))
+          (subst (λ (x : Items). ReadInto byteItem (now (at-args .args .rest)) (at-read-bytes .read-bytes .last .1 .0) x)
+          (at-count .count .given .1) (at-read-bytes .read-bytes .ensures)) (at-back .back .ensures))
+          (not-blank (now (at-back .back .result)) (at-is-blank .is-blank .result) (at-is-blank .is-blank .ensures)
+          (not-true (at-is-blank .is-blank .result) (c .if1 .taken)))));
+      fits = tt;
+    }
 
 returns-2 : tie.Need-returns-2
-returns-2 c = λ bytes numbers events. record { is = sym (ap (writeMeaning (c .before .before .before .before .before .before .args .index) (c .before .before .before .before .before .before .args .sub)) (read-missing byteItem (now (c .before .before .before .before .before .before .args .rest)) (c .before .before .before .read-bytes .last .1 .0) 512 (omega (arith, c .before .before .before .read-bytes .kept .1 .0)) _ (subst (λ (x : Items). ReadInto byteItem (now (c .before .before .before .before .before .before .args .rest)) (c .before .before .before .read-bytes .last .1 .0) x) (c .before .expected .given .1) (c .before .before .before .read-bytes .ensures)))); fits = tt }
+returns-2 c =
+    let at-expected = c .before in
+    let at-read-bytes = at-expected .before .before in
+    let at-args = at-read-bytes .before .before .before in
+    λ bytes numbers events. record {
+      is = sym
+          (ap (writeMeaning (at-args .args .index) (at-args .args .sub))
+          (read-missing byteItem (now (at-args .args .rest)) (at-read-bytes .read-bytes .last .1 .0) 512
+          (omega (arith, at-read-bytes .read-bytes .kept .1 .0)) _
+          (subst (λ (x : Items). ReadInto byteItem (now (at-args .args .rest)) (at-read-bytes .read-bytes .last .1 .0) x)
+          (at-expected .expected .given .1) (at-read-bytes .read-bytes .ensures))));
+      fits = tt;
+    }
 
 returns-3 : tie.Need-returns-3
-returns-3 c = λ bytes numbers events. record { is = sym (ap (writeMeaning (c .before .before .before .before .before .before .before .before .before .args .index) (c .before .before .before .before .before .before .before .before .before .args .sub)) (found-end _ _ _ (read-found byteItem (now (c .before .before .before .before .before .before .before .before .before .args .rest)) (c .before .before .before .before .before .before .read-bytes .last .1 .0) 512 (omega (arith, c .before .before .before .before .before .before .read-bytes .kept .1 .0)) (c .before .before .before .before .count .given .0 .0) (c .before .before .before .before .count .given .0 .1 .0) (now (c .before .before .back .result)) (subst (λ (x : Items). ReadInto byteItem (now (c .before .before .before .before .before .before .before .before .before .args .rest)) (c .before .before .before .before .before .before .read-bytes .last .1 .0) x) (c .before .before .before .before .count .given .1) (c .before .before .before .before .before .before .read-bytes .ensures)) (c .before .before .back .ensures)) (blank (now (c .before .before .back .result)) (c .before .is-blank .result) (c .before .is-blank .ensures) (not-false (c .before .is-blank .result) (c .if1 .left))))); fits = omega (arith, (subst (λ (x : Items). ReadInto byteItem (now (c .before .before .before .before .before .before .before .before .before .args .rest)) (c .before .before .before .before .before .before .read-bytes .last .1 .0) x) (c .before .before .before .before .count .given .1) (c .before .before .before .before .before .before .read-bytes .ensures)) .room, c .before .before .before .before .before .before .read-bytes .kept .1 .0) }
+returns-3 c =
+    let at-is-blank = c .before in
+    let at-back = at-is-blank .before in
+    let at-count = at-back .before .before in
+    let at-read-bytes = at-count .before .before in
+    let at-args = at-read-bytes .before .before .before in
+    λ bytes numbers events. record {
+      is = sym
+          (ap (writeMeaning (at-args .args .index) (at-args .args .sub))
+          (found-end _ _ _ (read-found byteItem (now (at-args .args .rest)) (at-read-bytes .read-bytes .last .1 .0) 512
+          (omega (arith, at-read-bytes .read-bytes .kept .1 .0)) (at-count .count .given .0 .0) (at-count .count .given .0 .1 .0)
+          (now (at-back .back .result))
+          (subst (λ (x : Items). ReadInto byteItem (now (at-args .args .rest)) (at-read-bytes .read-bytes .last .1 .0) x)
+          (at-count .count .given .1) (at-read-bytes .read-bytes .ensures)) (at-back .back .ensures))
+          (blank (now (at-back .back .result)) (at-is-blank .is-blank .result) (at-is-blank .is-blank .ensures)
+          (not-false (at-is-blank .is-blank .result) (c .if1 .left)))));
+      fits = omega (
+        arith,
+        (subst (λ (x : Items). ReadInto byteItem (now (at-args .args .rest)) (at-read-bytes .read-bytes .last .1 .0) x)
+            (at-count .count .given .1) (at-read-bytes .read-bytes .ensures)) .room,
+        at-read-bytes .read-bytes .kept .1 .0,
+      );
+    }
 
 pub write-spec : {M : Type 1} → statement M
 write-spec =

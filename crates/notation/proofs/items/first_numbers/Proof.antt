@@ -10,7 +10,8 @@ use Rattle.notation.proofs.items.first_numbers.Statement.{statement}
 use Rattle.notation.proofs.items.first_numbers.Tie as tie
 
 slice-aggregate-result : tie.Need-slice-aggregate-result
-slice-aggregate-result c = sym (length-take-le (c .before .before .args .n) (now (c .before .before .args .numbers)) (omega (arith, c .before .if1 .taken)))
+slice-aggregate-result c = sym
+    (length-take-le (c .before .before .args .n) (now (c .before .before .args .numbers)) (omega (arith, c .before .if1 .taken)))
 
 returns : tie.Need-returns
 returns c = search needs

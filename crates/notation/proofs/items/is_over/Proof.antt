@@ -19,7 +19,11 @@ same-requires : tie.Need-same-requires
 same-requires c κs = search needs
 
 returns : tie.Need-returns
-returns c = over-is (now (c .before .before .before .before .args .line)) (now (c .before .before .first-word .result)) (c .same .result) (c .before .before .first-word .ensures) (same-word (now (c .before .before .first-word .result)) slash (c .same .result) (c .same .ensures))
+returns c =
+    let at-first-word = c .before .before in
+    let at-args = at-first-word .before .before in
+    over-is (now (at-args .args .line)) (now (at-first-word .first-word .result)) (c .same .result) (at-first-word .first-word .ensures)
+    (same-word (now (at-first-word .first-word .result)) slash (c .same .result) (c .same .ensures))
 
 pub is-over-spec : {M : Type 1} → statement M
 is-over-spec = tie.close (tie.spec first-word-requires slice-aggregate-same same-requires returns)

@@ -3,14 +3,13 @@
 use borrow.Author.Tests.{not-true, not-false}
 use Rattle.notation.specs.Words.{firstWord}
 use Rattle.notation.specs.Items.{byteItem}
-use Rattle.notation.proofs.ItemLaws.{Reading, reading-none, reading-over, reading-wrong, reading-full, reading-more, over-there, not-over}
+use Rattle.notation.proofs.ItemLaws.{Reading, reading-none, reading-over, reading-wrong, reading-full, reading-more, over-there}
+use Rattle.notation.proofs.ItemLaws.{not-over}
 use borrow.Author.Needs.{needs}
 use native.Mathlib.Omega.{arith}
 use lib.ListN.{length, length-set, length-drop}
 use denote.Ref.{now}
-use Prim.Native.Nat.{ℕ, _-_, _≤_}
-use mathlib.Core.List.{List}
-use mathlib.Core.Bool.{false}
+use Prim.Native.Nat.{_-_, _≤_}
 use mathlib.Core.Path.{_≡_, refl, sym, ap, _∙_}
 use Rattle.notation.proofs.items.read_bytes.Statement.{statement}
 use Rattle.notation.proofs.items.read_bytes.Tie as tie
@@ -40,21 +39,50 @@ hexadecimal-requires : tie.Need-hexadecimal-requires Inv-loop μ-loop
 hexadecimal-requires c κs = search needs
 
 same-length : tie.Need-same-length Inv-loop μ-loop
-same-length c = c .before .before .before .before .before .before .before .loop .inv .0
+same-length c =
+    let at-loop = c .before .before .before .before .before .before .before in
+    at-loop .loop .inv .0
 
 returns : tie.Need-returns Inv-loop μ-loop
 returns c =
-    let on = over-there (now (c .before .before .before .before .before .before .back .result)) (now (c .before .before .before .back2 .result)) _ (c .before .before .before .before .before .is-over .result) (c .before .before .before .before .before .before .back .ensures) (c .before .before .before .back2 .ensures) (c .before .before .before .before .before .is-over .ensures) (not-true _ (c .before .before .before .before .if1 .taken)) in
-    let number : c .before .hexadecimal .result ≡ byteItem .number (now (c .before .before .first-word .result)) = c .before .hexadecimal .ensures in
-    reading-wrong byteItem (now (c .before .before .before .before .before .before .before .before .before .before .args .line)) (c .before .before .before .before .before .before .before .loop .out) (c .before .before .before .before .before .before .before .loop .count) (c .before .before .before .before .before .before .before .loop .at) (c .before .before .before .before .before .before .before .loop .inv .1) (now (c .before .before .before .back2 .result)) (c .before .before .before .back2 .ensures) (c .before .hexadecimal .result) on (number ∙ ap (byteItem .number) (c .before .before .first-word .ensures)) (c .if2 .taken)
+    let at-hexadecimal = c .before in
+    let at-first-word = at-hexadecimal .before in
+    let at-back2 = at-first-word .before in
+    let at-if1 = at-back2 .before in
+    let at-is-over = at-if1 .before in
+    let at-back = at-is-over .before in
+    let at-loop = at-back .before in
+    let at-args = at-loop .before .before .before in
+    let on = over-there (now (at-back .back .result)) (now (at-back2 .back2 .result)) _ (at-is-over .is-over .result)
+    (at-back .back .ensures) (at-back2 .back2 .ensures) (at-is-over .is-over .ensures) (not-true _ (at-if1 .if1 .taken)) in
+    let number : at-hexadecimal .hexadecimal .result ≡ byteItem .number
+    (now (at-first-word .first-word .result)) = at-hexadecimal .hexadecimal .ensures in
+    reading-wrong byteItem (now (at-args .args .line)) (at-loop .loop .out) (at-loop .loop .count) (at-loop .loop .at)
+    (at-loop .loop .inv .1) (now (at-back2 .back2 .result)) (at-back2 .back2 .ensures) (at-hexadecimal .hexadecimal .result) on
+    (number ∙ ap (byteItem .number) (at-first-word .first-word .ensures)) (c .if2 .taken)
 
 same-length-2 : tie.Need-same-length-2 Inv-loop μ-loop
-same-length-2 c = c .before .before .before .before .before .before .before .before .loop .inv .0
+same-length-2 c =
+    let at-loop = c .before .before .before .before .before .before .before .before in
+    at-loop .loop .inv .0
 
 returns-2 : tie.Need-returns-2 Inv-loop μ-loop
 returns-2 c =
-    let on = over-there (now (c .before .before .before .before .before .before .before .back .result)) (now (c .before .before .before .before .back2 .result)) _ (c .before .before .before .before .before .before .is-over .result) (c .before .before .before .before .before .before .before .back .ensures) (c .before .before .before .before .back2 .ensures) (c .before .before .before .before .before .before .is-over .ensures) (not-true _ (c .before .before .before .before .before .if1 .taken)) in
-    reading-full byteItem (now (c .before .before .before .before .before .before .before .before .before .before .before .args .line)) (c .before .before .before .before .before .before .before .before .loop .out) (c .before .before .before .before .before .before .before .before .loop .count) (c .before .before .before .before .before .before .before .before .loop .at) (c .before .before .before .before .before .before .before .before .loop .inv .1) (now (c .before .before .before .before .back2 .result)) (c .before .before .before .before .back2 .ensures) (c .before .before .hexadecimal .result) on (c .before .before .hexadecimal .ensures ∙ ap (byteItem .number) (c .before .before .before .first-word .ensures)) (c .before .if2 .left) (c .if3 .taken)
+    let at-if2 = c .before in
+    let at-hexadecimal = at-if2 .before in
+    let at-first-word = at-hexadecimal .before in
+    let at-back2 = at-first-word .before in
+    let at-if1 = at-back2 .before in
+    let at-is-over = at-if1 .before in
+    let at-back = at-is-over .before in
+    let at-loop = at-back .before in
+    let at-args = at-loop .before .before .before in
+    let on = over-there (now (at-back .back .result)) (now (at-back2 .back2 .result)) _ (at-is-over .is-over .result)
+    (at-back .back .ensures) (at-back2 .back2 .ensures) (at-is-over .is-over .ensures) (not-true _ (at-if1 .if1 .taken)) in
+    reading-full byteItem (now (at-args .args .line)) (at-loop .loop .out) (at-loop .loop .count) (at-loop .loop .at)
+    (at-loop .loop .inv .1) (now (at-back2 .back2 .result)) (at-back2 .back2 .ensures) (at-hexadecimal .hexadecimal .result) on
+    (at-hexadecimal .hexadecimal .ensures ∙ ap (byteItem .number) (at-first-word .first-word .ensures)) (at-if2 .if2 .left)
+    (c .if3 .taken)
 
 cast-out : tie.Need-cast-out Inv-loop μ-loop
 cast-out c = omega arith
@@ -69,27 +97,74 @@ word-end-requires : tie.Need-word-end-requires Inv-loop μ-loop
 word-end-requires c κs = search needs
 
 add-at : tie.Need-add-at Inv-loop μ-loop
-add-at c = omega (arith, c .word-end .ensures .within, ap length (c .before .before .before .before .before .back2 .ensures), length-drop (c .before .before .before .before .before .before .before .before .before .loop .at) (now (c .before .before .before .before .before .before .before .before .before .before .before .before .args .line)), c .before .before .before .before .before .before .before .before .before .loop .inv .1 .within)
+add-at c =
+    let at-back2 = c .before .before .before .before .before in
+    let at-loop = at-back2 .before .before .before .before in
+    let at-args = at-loop .before .before .before in
+    omega (
+      arith,
+      c .word-end .ensures .within,
+      ap length (at-back2 .back2 .ensures),
+      length-drop (at-loop .loop .at)
+          (now (at-args .args .line)),
+      at-loop .loop .inv .1 .within,
+    )
 
 loop-less : tie.Need-loop-less Inv-loop μ-loop
 loop-less c =
-    let on = over-there (now (c .before .before .before .before .before .before .before .before .back .result)) (now (c .before .before .before .before .before .back2 .result)) _ (c .before .before .before .before .before .before .before .is-over .result) (c .before .before .before .before .before .before .before .before .back .ensures) (c .before .before .before .before .before .back2 .ensures) (c .before .before .before .before .before .before .before .is-over .ensures) (not-true _ (c .before .before .before .before .before .before .if1 .taken)) in
-    let word : length (firstWord (now (c .before .before .before .before .before .back2 .result))) ≡ 0 → ⊥ = not-over (now (c .before .before .before .before .before .back2 .result)) on in
+    let at-back2 = c .before .before .before .before .before in
+    let at-if1 = at-back2 .before in
+    let at-is-over = at-if1 .before in
+    let at-back = at-is-over .before in
+    let at-loop = at-back .before in
+    let at-args = at-loop .before .before .before in
+    let on = over-there (now (at-back .back .result)) (now (at-back2 .back2 .result)) _ (at-is-over .is-over .result)
+    (at-back .back .ensures) (at-back2 .back2 .ensures) (at-is-over .is-over .ensures) (not-true _ (at-if1 .if1 .taken)) in
+    let word : length (firstWord (now (at-back2 .back2 .result))) ≡ 0 → ⊥ = not-over (now (at-back2 .back2 .result)) on in
     let past : 1 ≤ c .word-end .result = omega (arith, word, c .word-end .ensures .past) in
-    omega (arith, past, c .word-end .ensures .within, ap length (c .before .before .before .before .before .back2 .ensures), length-drop (c .before .before .before .before .before .before .before .before .before .loop .at) (now (c .before .before .before .before .before .before .before .before .before .before .before .before .args .line)), c .before .before .before .before .before .before .before .before .before .loop .inv .1 .within)
+    omega (
+      arith,
+      past,
+      c .word-end .ensures .within,
+      ap length (at-back2 .back2 .ensures),
+      length-drop (at-loop .loop .at)
+          (now (at-args .args .line)),
+      at-loop .loop .inv .1 .within,
+    )
 
 loop-again : tie.Need-loop-again Inv-loop μ-loop
 loop-again c =
-    let on = over-there (now (c .before .before .before .before .before .before .before .before .back .result)) (now (c .before .before .before .before .before .back2 .result)) _ (c .before .before .before .before .before .before .before .is-over .result) (c .before .before .before .before .before .before .before .before .back .ensures) (c .before .before .before .before .before .back2 .ensures) (c .before .before .before .before .before .before .before .is-over .ensures) (not-true _ (c .before .before .before .before .before .before .if1 .taken)) in (
-      simp length-set (c .before .before .before .before .before .before .before .before .before .loop .inv .0),
-      reading-more byteItem (now (c .before .before .before .before .before .before .before .before .before .before .before .before .args .line)) (c .before .before .before .before .before .before .before .before .before .loop .out) (c .before .before .before .before .before .before .before .before .before .loop .count) (c .before .before .before .before .before .before .before .before .before .loop .at) (c .before .before .before .before .before .before .before .before .before .loop .inv .1) (now (c .before .before .before .before .before .back2 .result)) (c .before .before .before .before .before .back2 .ensures) (c .before .before .before .hexadecimal .result) (c .word-end .result) _ on (c .before .before .before .hexadecimal .ensures ∙ ap (byteItem .number) (c .before .before .before .before .first-word .ensures)) (c .before .before .if2 .left) (c .before .if3 .left) refl (c .word-end .ensures),
+    let at-if3 = c .before in
+    let at-if2 = at-if3 .before in
+    let at-hexadecimal = at-if2 .before in
+    let at-first-word = at-hexadecimal .before in
+    let at-back2 = at-first-word .before in
+    let at-if1 = at-back2 .before in
+    let at-is-over = at-if1 .before in
+    let at-back = at-is-over .before in
+    let at-loop = at-back .before in
+    let at-args = at-loop .before .before .before in
+    let on = over-there (now (at-back .back .result)) (now (at-back2 .back2 .result)) _ (at-is-over .is-over .result)
+    (at-back .back .ensures) (at-back2 .back2 .ensures) (at-is-over .is-over .ensures) (not-true _ (at-if1 .if1 .taken)) in (
+      simp length-set (at-loop .loop .inv .0),
+      reading-more byteItem (now (at-args .args .line)) (at-loop .loop .out) (at-loop .loop .count) (at-loop .loop .at)
+          (at-loop .loop .inv .1) (now (at-back2 .back2 .result)) (at-back2 .back2 .ensures) (at-hexadecimal .hexadecimal .result)
+          (c .word-end .result) _ on (at-hexadecimal .hexadecimal .ensures ∙ ap (byteItem .number) (at-first-word .first-word .ensures))
+          (at-if2 .if2 .left) (at-if3 .if3 .left) refl (c .word-end .ensures),
     )
 
 same-length-3 : tie.Need-same-length-3 Inv-loop μ-loop
 same-length-3 c = c .before .before .before .loop .inv .0
 
 returns-3 : tie.Need-returns-3 Inv-loop μ-loop
-returns-3 c = reading-over byteItem (now (c .before .before .before .before .before .before .args .line)) (c .before .before .before .loop .out) (c .before .before .before .loop .count) (c .before .before .before .loop .at) (c .before .before .before .loop .inv .1) (now (c .before .before .back .result)) (c .before .before .back .ensures) (sym (c .before .is-over .ensures) ∙ not-false _ (c .if1 .left))
+returns-3 c =
+    let at-is-over = c .before in
+    let at-back = at-is-over .before in
+    let at-loop = at-back .before in
+    let at-args = at-loop .before .before .before in
+    reading-over byteItem (now (at-args .args .line)) (at-loop .loop .out) (at-loop .loop .count) (at-loop .loop .at)
+    (at-loop .loop .inv .1) (now (at-back .back .result)) (at-back .back .ensures)
+    (sym (at-is-over .is-over .ensures) ∙ not-false _ (c .if1 .left))
 
 pub read-bytes-spec : {M : Type 1} → statement M
 read-bytes-spec =

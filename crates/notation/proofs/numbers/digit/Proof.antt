@@ -29,11 +29,28 @@ cast-result-2 c = search needs
 
 returns-4 : tie.Need-returns-4
 unfolding digitOf
-returns-4 c = simp (le-ltb _ _ (c .before .before .before .if1 .left), le-ltb _ _ (c .before .before .if2 .left), le-ltb _ _ (c .before .if3 .left), lt-ltb _ _ (c .if4 .taken))
+returns-4 c = simp (
+  le-ltb _ _ (c .before .before .before .if1 .left),
+  le-ltb _ _ (c .before .before .if2 .left),
+  le-ltb _ _
+      (c .before .if3 .left),
+  lt-ltb _ _ (c .if4 .taken),
+)
 
 returns-5 : tie.Need-returns-5
 unfolding digitOf
-returns-5 c = simp (le-ltb _ _ (c .before .before .before .before .if1 .left), le-ltb _ _ (c .before .before .before .if2 .left), le-ltb _ _ (c .before .before .if3 .left), le-ltb _ _ (c .before .if4 .left), lt-ltb _ _ (c .if5 .taken))
+returns-5 c =
+    let at-if4 = c .before in
+    let at-if3 = at-if4 .before in
+    let at-if2 = at-if3 .before in
+    let at-if1 = at-if2 .before in
+    simp (
+      le-ltb _ _ (at-if1 .if1 .left),
+      le-ltb _ _ (at-if2 .if2 .left),
+      le-ltb _ _ (at-if3 .if3 .left),
+      le-ltb _ _ (at-if4 .if4 .left),
+      lt-ltb _ _ (c .if5 .taken),
+    )
 
 sub-result-2 : tie.Need-sub-result-2
 sub-result-2 c = search needs
@@ -43,11 +60,37 @@ cast-result-3 c = search needs
 
 returns-6 : tie.Need-returns-6
 unfolding digitOf
-returns-6 c = simp (le-ltb _ _ (c .before .before .before .before .before .if1 .left), le-ltb _ _ (c .before .before .before .before .if2 .left), le-ltb _ _ (c .before .before .before .if3 .left), le-ltb _ _ (c .before .before .if4 .left), le-ltb _ _ (c .before .if5 .left), lt-ltb _ _ (c .if6 .taken))
+returns-6 c =
+    let at-if5 = c .before in
+    let at-if4 = at-if5 .before in
+    let at-if3 = at-if4 .before in
+    let at-if2 = at-if3 .before in
+    let at-if1 = at-if2 .before in
+    simp (
+      le-ltb _ _ (at-if1 .if1 .left),
+      le-ltb _ _ (at-if2 .if2 .left),
+      le-ltb _ _ (at-if3 .if3 .left),
+      le-ltb _ _ (at-if4 .if4 .left),
+      le-ltb _ _ (at-if5 .if5 .left),
+      lt-ltb _ _ (c .if6 .taken),
+    )
 
 returns-7 : tie.Need-returns-7
 unfolding digitOf
-returns-7 c = simp (le-ltb _ _ (c .before .before .before .before .before .if1 .left), le-ltb _ _ (c .before .before .before .before .if2 .left), le-ltb _ _ (c .before .before .before .if3 .left), le-ltb _ _ (c .before .before .if4 .left), le-ltb _ _ (c .before .if5 .left), le-ltb _ _ (c .if6 .left))
+returns-7 c =
+    let at-if5 = c .before in
+    let at-if4 = at-if5 .before in
+    let at-if3 = at-if4 .before in
+    let at-if2 = at-if3 .before in
+    let at-if1 = at-if2 .before in
+    simp (
+      le-ltb _ _ (at-if1 .if1 .left),
+      le-ltb _ _ (at-if2 .if2 .left),
+      le-ltb _ _ (at-if3 .if3 .left),
+      le-ltb _ _ (at-if4 .if4 .left),
+      le-ltb _ _ (at-if5 .if5 .left),
+      le-ltb _ _ (c .if6 .left),
+    )
 
 pub digit-spec : {M : Type 1} → statement M
 digit-spec =

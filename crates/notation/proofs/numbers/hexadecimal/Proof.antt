@@ -13,7 +13,8 @@ number-requires : tie.Need-number-requires
 number-requires c κs = search needs
 
 returns-2 : tie.Need-returns-2
-returns-2 c = few-enough (c .before .before .before .args .most) (now (c .before .before .before .args .word)) _ (c .before .if1 .left) (c .number .ensures)
+returns-2 c = few-enough (c .before .before .before .args .most) (now (c .before .before .before .args .word)) _ (c .before .if1 .left)
+    (c .number .ensures)
 
 pub hexadecimal-spec : {M : Type 1} → statement M
 hexadecimal-spec = tie.close (tie.spec returns number-requires returns-2)

@@ -1,6 +1,7 @@
 -- `numbers::number` meets its contract: what the rest of the word makes of the number so far is the word's number.
 -- Assumes nothing.
-use Rattle.notation.proofs.NumberLaws.{onward, capped-small, small-product, number-is, number-none, digit-more, digit-none, onward-ends}
+use Rattle.notation.proofs.NumberLaws.{onward, capped-small, small-product, number-is, number-none, digit-more, digit-none}
+use Rattle.notation.proofs.NumberLaws.{onward-ends}
 use native.Mathlib.Omega.{arith}
 use borrow.Author.Needs.{needs}
 use lib.ListN.{length, drop}
@@ -33,7 +34,8 @@ returns-2 c =
     let at-loop = c .before .before .before .before in
     let start = at-loop .before .before .before in
     let word = now (start .args .word) in
-    sym (digit-none (start .args .base) (at-loop .loop .value) word (at-loop .loop .i) _ (c .before .before .before .loop-test .taken) (c .before .digit .ensures) (c .if2 .taken))
+    sym (digit-none (start .args .base) (at-loop .loop .value) word (at-loop .loop .i) _ (c .before .before .before .loop-test .taken)
+    (c .before .digit .ensures) (c .if2 .taken))
     ∙ at-loop .loop .inv .2 ∙ number-is (start .args .base) word (start .pre .0) (at-loop .before .if1 .left)
 
 mul-limited : tie.Need-mul-limited Inv-loop μ-loop
@@ -46,7 +48,12 @@ add-limited : tie.Need-add-limited Inv-loop μ-loop
 add-limited c =
     let at-loop = c .before .before .before .before in
     let start = at-loop .before .before .before in
-    omega (arith, small-product (at-loop .loop .value) (start .args .base) (at-loop .loop .inv .1) (start .pre .1), c .if2 .left, start .pre .1)
+    omega (
+      arith,
+      small-product (at-loop .loop .value) (start .args .base) (at-loop .loop .inv .1) (start .pre .1),
+      c .if2 .left,
+      start .pre .1,
+    )
 
 limited-requires : tie.Need-limited-requires Inv-loop μ-loop
 limited-requires c κs = search needs
@@ -59,13 +66,16 @@ loop-less c = omega arith
 
 loop-again : tie.Need-loop-again Inv-loop μ-loop
 loop-again c =
-    let at-loop = c .before .before .before .before .before in
+    let at-loop-test = c .before .before .before .before in
+    let at-loop = at-loop-test .before in
     let start = at-loop .before .before .before in
     let word = now (start .args .word) in (
       omega arith,
-      subst (λ k. k ≤ 65536) (sym (c .limited .ensures)) (capped-small (at-loop .loop .value * start .args .base + c .before .before .digit .result)),
+      subst (λ k. k ≤ 65536) (sym (c .limited .ensures))
+          (capped-small (at-loop .loop .value * start .args .base + c .before .before .digit .result)),
       ap (λ k. onward (start .args .base) k (drop (at-loop .loop .i + 1) word)) (c .limited .ensures)
-          ∙ sym (digit-more (start .args .base) (at-loop .loop .value) word (at-loop .loop .i) _ (c .before .before .before .before .loop-test .taken) (c .before .before .digit .ensures) (c .before .if2 .left))
+          ∙ sym (digit-more (start .args .base) (at-loop .loop .value) word (at-loop .loop .i) _
+          (at-loop-test .loop-test .taken) (c .before .before .digit .ensures) (c .before .if2 .left))
           ∙ at-loop .loop .inv .2,
     )
 

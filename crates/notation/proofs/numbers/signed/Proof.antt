@@ -25,24 +25,38 @@ negated-requires c κs = search needs
 
 returns : tie.Need-returns
 returns c =
-    let word = now (c .before .before .before .before .before .before .args .word) in
-    minus-is word _ (sym (c .before .before .before .before .first-byte .ensures) ∙ c .before .before .before .if1 .taken)
-    (c .negated .ensures ∙ ap minus (c .before .decimal .ensures ∙ ap (λ (l : List ℕ). numberOf 10 l) (c .before .before .without-first .ensures)))
+    let at-decimal = c .before in
+    let at-without-first = at-decimal .before in
+    let at-if1 = at-without-first .before in
+    let at-first-byte = at-if1 .before in
+    let at-args = at-first-byte .before .before in
+    let word = now (at-args .args .word) in
+    minus-is word _ (sym (at-first-byte .first-byte .ensures) ∙ at-if1 .if1 .taken)
+    (c .negated .ensures ∙ ap minus
+    (at-decimal .decimal .ensures ∙ ap (λ (l : List ℕ). numberOf 10 l) (at-without-first .without-first .ensures)))
 
 decimal-requires-2 : tie.Need-decimal-requires-2
 decimal-requires-2 c κs = search needs
 
 returns-2 : tie.Need-returns-2
 returns-2 c =
-    let word = now (c .before .before .before .before .before .args .word) in
-    plus-is word 65536 (λ e. c .before .before .if1 .left (c .before .before .before .first-byte .ensures ∙ e))
-    (rw (sym (c .before .decimal2 .ensures), lt-ltb 32767 (c .before .decimal2 .result) (c .if2 .taken)))
+    let at-decimal2 = c .before in
+    let at-if1 = at-decimal2 .before in
+    let at-first-byte = at-if1 .before in
+    let at-args = at-first-byte .before .before in
+    let word = now (at-args .args .word) in
+    plus-is word 65536 (λ e. at-if1 .if1 .left (at-first-byte .first-byte .ensures ∙ e))
+    (rw (sym (at-decimal2 .decimal2 .ensures), lt-ltb 32767 (at-decimal2 .decimal2 .result) (c .if2 .taken)))
 
 returns-3 : tie.Need-returns-3
 returns-3 c =
-    let word = now (c .before .before .before .before .before .args .word) in
-    plus-is word _ (λ e. c .before .before .if1 .left (c .before .before .before .first-byte .ensures ∙ e))
-    (rw (sym (c .before .decimal2 .ensures), le-ltb 32767 (c .before .decimal2 .result) (c .if2 .left)))
+    let at-decimal2 = c .before in
+    let at-if1 = at-decimal2 .before in
+    let at-first-byte = at-if1 .before in
+    let at-args = at-first-byte .before .before in
+    let word = now (at-args .args .word) in
+    plus-is word _ (λ e. at-if1 .if1 .left (at-first-byte .first-byte .ensures ∙ e))
+    (rw (sym (at-decimal2 .decimal2 .ensures), le-ltb 32767 (at-decimal2 .decimal2 .result) (c .if2 .left)))
 
 pub signed-spec : {M : Type 1} → statement M
 signed-spec =

@@ -18,7 +18,8 @@ front-requires : tie.Need-front-requires
 front-requires c κs = search needs
 
 returns : tie.Need-returns
-returns c = first-word-is _ _ _ _ _ (c .before .before .before .leading .ensures) (c .before .before .back .ensures) (c .before .until .ensures) (c .front .ensures)
+returns c = first-word-is _ _ _ _ _ (c .before .before .before .leading .ensures) (c .before .before .back .ensures)
+    (c .before .until .ensures) (c .front .ensures)
 
 pub first-word-spec : {M : Type 1} → statement M
 first-word-spec =

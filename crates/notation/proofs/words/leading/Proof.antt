@@ -27,7 +27,8 @@ shared-slice-read-if1 c = omega arith
 returns : tie.Need-returns Inv-loop μ-loop
 returns c =
     let at-loop = c .before .before .before in
-    run-stops true _ (now (at-loop .before .args .line)) _ (c .before .before .loop-test .taken) (λ e. c .if1 .taken (eqb-true _ _ e)) (at-loop .loop .inv .1)
+    run-stops true _ (now (at-loop .before .args .line)) _ (c .before .before .loop-test .taken) (λ e. c .if1 .taken (eqb-true _ _ e))
+    (at-loop .loop .inv .1)
 
 add-i : tie.Need-add-i Inv-loop μ-loop
 add-i c = omega arith
@@ -37,11 +38,15 @@ loop-less c = omega arith
 
 loop-again : tie.Need-loop-again Inv-loop μ-loop
 loop-again c =
-    let at-loop = c .before .before .before in
-    (omega arith, run-more true _ (now (at-loop .before .args .line)) _ (c .before .before .loop-test .taken) (eq-eqb _ _ (c .if1 .left)) (at-loop .loop .inv .1))
+    let at-loop = c .before .before .before in (
+      omega arith,
+      run-more true _ (now (at-loop .before .args .line)) _ (c .before .before .loop-test .taken) (eq-eqb _ _ (c .if1 .left))
+          (at-loop .loop .inv .1),
+    )
 
 returns-2 : tie.Need-returns-2 Inv-loop μ-loop
-returns-2 c = run-ends true _ (now (c .before .before .args .line)) _ (c .before .loop .inv .0) (c .loop-test .left) (c .before .loop .inv .1)
+returns-2 c = run-ends true _ (now (c .before .before .args .line)) _ (c .before .loop .inv .0) (c .loop-test .left)
+    (c .before .loop .inv .1)
 
 pub leading-spec : {M : Type 1} → statement M
 leading-spec =

@@ -27,7 +27,8 @@ shared-slice-read-if1 c = omega arith
 returns : tie.Need-returns Inv-loop μ-loop
 returns c =
     let at-loop = c .before .before .before in
-    run-stops false _ (now (at-loop .before .args .line)) _ (c .before .before .loop-test .taken) (λ e. eqb-false _ _ e (c .if1 .taken)) (at-loop .loop .inv .1)
+    run-stops false _ (now (at-loop .before .args .line)) _ (c .before .before .loop-test .taken) (λ e. eqb-false _ _ e (c .if1 .taken))
+    (at-loop .loop .inv .1)
 
 add-i : tie.Need-add-i Inv-loop μ-loop
 add-i c = omega arith
@@ -37,11 +38,15 @@ loop-less c = omega arith
 
 loop-again : tie.Need-loop-again Inv-loop μ-loop
 loop-again c =
-    let at-loop = c .before .before .before in
-    (omega arith, run-more false _ (now (at-loop .before .args .line)) _ (c .before .before .loop-test .taken) (ne-eqb _ _ (c .if1 .left)) (at-loop .loop .inv .1))
+    let at-loop = c .before .before .before in (
+      omega arith,
+      run-more false _ (now (at-loop .before .args .line)) _ (c .before .before .loop-test .taken)
+          (ne-eqb _ _ (c .if1 .left)) (at-loop .loop .inv .1),
+    )
 
 returns-2 : tie.Need-returns-2 Inv-loop μ-loop
-returns-2 c = run-ends false _ (now (c .before .before .args .line)) _ (c .before .loop .inv .0) (c .loop-test .left) (c .before .loop .inv .1)
+returns-2 c = run-ends false _ (now (c .before .before .args .line)) _ (c .before .loop .inv .0) (c .loop-test .left)
+    (c .before .loop .inv .1)
 
 pub until-spec : {M : Type 1} → statement M
 until-spec =

@@ -22,10 +22,15 @@ front-requires : tie.Need-front-requires
 front-requires c κs = search needs
 
 returns-2 : tie.Need-returns-2
-returns-2 c = return-cut (now (c .before .before .before .before .before .args .line)) _ (c .before .if2 .taken) (c .front .ensures)
+returns-2 c =
+    let at-if2 = c .before in
+    let at-args = at-if2 .before .before .before .before in
+    return-cut (now (at-args .args .line)) _ (at-if2 .if2 .taken) (c .front .ensures)
 
 returns-3 : tie.Need-returns-3
-returns-3 c = return-kept (now (c .before .before .before .before .args .line)) (c .if2 .left)
+returns-3 c =
+    let at-args = c .before .before .before .before in
+    return-kept (now (at-args .args .line)) (c .if2 .left)
 
 pub without-return-spec : {M : Type 1} → statement M
 without-return-spec =

@@ -1,0 +1,227 @@
+-- How long an answer can be: no line has more than 1,024 bytes.
+-- Assumes nothing.
+use mathlib.Core.Path.{_≡_, refl, subst}
+use mathlib.Core.Bool.{Bool, true, false, cond}
+use mathlib.Core.List.{List, [], _∷_, _++_}
+use Prim.Native.Nat.{ℕ, zero, suc, _+_, _-_, _*_, _/_, _%_, _^_, _≤_, _<_, max}
+use native.Mathlib.Nat.{pow-suc, suc-mul, div-lt-iff-lt-mul, le-max-left, le-max-right}
+use native.Mathlib.Omega.{arith}
+use lib.Dec.{eqb, ltb}
+use lib.ListN.{length, take, length-append}
+use lib.IntN.{ℤ}
+use mir.Syntax.{w16}
+use mir.Val.{ofZ}
+use borrow.Author.Tests.{ltb-true, ltb-false}
+use Rattle.profile.specs.declared.Home.{Home}
+use Rattle.profile.specs.Entries.{homeOf}
+use Rattle.profile.proofs.HomeLaws.{window-holds}
+use Rattle.notation.specs.declared.Expected.{Expected}
+use Rattle.notation.specs.declared.Expected.the-variants as Ex
+use Rattle.notation.specs.Ascii.{ascii}
+use Rattle.answers.specs.Tables.{Row, textOf}
+use Rattle.answers.specs.Texts.{hexText, longHexText, placesOf, decimalText, bitsText, eachText, bytesText, numbersText, placeText}
+use Rattle.answers.specs.Texts.{placesFrom, placesText}
+use Rattle.answers.specs.Answers.{newline, inParentheses, numberText, refusals, refusalText, endText, attributes, linesText}
+use Rattle.answers.specs.Answers.{attributeText, entryText, plainLine, writeLine, fourBytes, readLine, sampleLine, driveLine}
+use Rattle.answers.specs.Answers.{expectedText, unknownLine, totalsText}
+use Rattle.answers.proofs.ReadBack.{digits-length}
+
+-- one of two texts
+short-cond : (m : ℕ) (t : Bool) (a b : List ℕ) → length a ≤ m → length b ≤ m → length (cond t a b) ≤ m
+short-cond m true a b p q = p
+short-cond m false a b p q = q
+
+-- a text after another
+short-then : (m n : ℕ) (a b : List ℕ) → length a ≤ m → length b ≤ n → length (a ++ b) ≤ m + n
+short-then m n a b p q = omega (arith, p, q, length-append a b)
+
+-- ---- numbers
+
+-- a number below a power of ten has no more digits than it
+places-small : (f k n : ℕ) → n < 10 ^ suc k → placesOf f n ≤ suc k
+places-small zero k n h = omega arith
+places-small (suc f) zero n h = at (ltb n 10) (ltb-false n 10)
+  where
+    at : (t : Bool) → (t ≡ false → 10 ≤ n) → cond t 1 (suc (placesOf f (n / 10))) ≤ 1
+    at true g = omega arith
+    at false g = absurd (omega (arith, h, g refl))
+places-small (suc f) (suc k) n h = at (ltb n 10)
+    (places-small f k (n / 10) (div-lt-iff-lt-mul (omega arith) .1 (subst (λ x. n < x) (pow-suc 10 (suc k)) h)))
+  where
+    at : (t : Bool) → placesOf f (n / 10) ≤ suc k → cond t 1 (suc (placesOf f (n / 10))) ≤ suc (suc k)
+    at true r = omega arith
+    at false r = omega (arith, r)
+
+-- whatever the number, there are no more places than were asked for
+places-most : (f n : ℕ) → placesOf f n ≤ suc f
+places-most zero n = omega arith
+places-most (suc f) n = at (ltb n 10) (places-most f (n / 10))
+  where
+    at : (t : Bool) → placesOf f (n / 10) ≤ suc f → cond t 1 (suc (placesOf f (n / 10))) ≤ suc (suc f)
+    at true h = omega arith
+    at false h = omega (arith, h)
+
+decimal-short : (n : ℕ) → length (decimalText n) ≤ 20
+unfolding decimalText
+decimal-short n = omega (arith, digits-length 10 (placesOf 19 n) n, places-most 19 n)
+
+decimal-five : (n : ℕ) → n < 100000 → length (decimalText n) ≤ 5
+unfolding decimalText
+decimal-five n h = omega (arith, digits-length 10 (placesOf 19 n) n, places-small 19 4 n (omega (arith, h)))
+
+decimal-one : (n : ℕ) → n < 10 → length (decimalText n) ≤ 1
+unfolding decimalText
+decimal-one n h = omega (arith, digits-length 10 (placesOf 19 n) n, places-small 19 0 n (omega (arith, h)))
+
+hex-length : (b : ℕ) → length (hexText b) ≡ 2
+unfolding hexText
+hex-length b = refl
+
+long-hex-length : (n : ℕ) → length (longHexText n) ≡ 8
+unfolding longHexText hexText
+long-hex-length n = refl
+
+bits-short : (n : ℕ) → length (bitsText n) ≤ 6
+unfolding bitsText
+bits-short n = at (ltb n 32768) (ltb-true n 32768) (ltb-false n 32768)
+  where
+    at : (t : Bool) → (t ≡ true → n < 32768) → (t ≡ false → 32768 ≤ n) → length (cond t (decimalText n) (45 ∷ decimalText (65536 - n))) ≤ 6
+    at true l g = omega (arith, decimal-five n (omega (arith, l refl)))
+    at false l g = omega (arith, decimal-five (65536 - n) (omega (arith, g refl)))
+
+-- ---- lists
+
+-- a list's text is no longer than its elements' are together
+each-short : {A : Type 0} (f : A → List ℕ) (m : ℕ) → ((x : A) → length (f x) ≤ m) → (xs : List A) → length (eachText f xs) ≤ length xs * m
+each-short f m h [] = omega arith
+each-short f m h (x ∷ xs) = omega
+    (arith, short-then m (length xs * m) (f x) (eachText f xs) (h x) (each-short f m h xs), suc-mul (length xs) m)
+
+bytes-short : (bs : List ℕ) → length (bytesText bs) ≤ length bs * 3
+bytes-short bs = each-short (λ (b : ℕ). 32 ∷ hexText b) 3 (λ b. omega (arith, hex-length b)) bs
+
+numbers-short : (zs : List ℤ) → length (numbersText zs) ≤ length zs * 7
+numbers-short zs = each-short (λ (z : ℤ). 32 ∷ bitsText (ofZ w16 z)) 7 (λ z. omega (arith, bits-short (ofZ w16 z))) zs
+
+place-short : (n bits : ℕ) → length (placeText n bits) ≤ 21
+unfolding placeText
+place-short n bits = short-cond 21 (eqb (bits % 2) 1) (32 ∷ decimalText n) [] (omega (arith, decimal-short n)) (omega arith)
+
+places-from-short : (k n bits : ℕ) → length (placesFrom k n bits) ≤ k * 21
+places-from-short zero n bits = omega arith
+places-from-short (suc k) n bits = omega (
+  arith,
+  short-then 21 (k * 21) (placeText n bits) (placesFrom k (n + 1) (bits / 2)) (place-short n bits)
+      (places-from-short k (n + 1) (bits / 2)),
+)
+
+places-short : (bits : ℕ) → length (placesText bits) ≤ 336
+unfolding placesText
+places-short bits = omega (arith, places-from-short 16 1 bits)
+
+-- ---- words
+
+number-short : (n : ℕ) → length (numberText n) ≤ 8
+unfolding numberText
+number-short n = at (ltb n 10) (ltb-true n 10)
+  where
+    at : (t : Bool) → (t ≡ true → n < 10) → length (cond t (decimalText n) (longHexText n)) ≤ 8
+    at true l = omega (arith, decimal-one n (l refl))
+    at false l = omega (arith, long-hex-length n)
+
+-- the words of a table are no longer than the longest
+abbrev longest : List ℕ → List Row → ℕ
+longest other [] = length other
+longest other (row ∷ rows) = max (length (row .words)) (longest other rows)
+
+table-short : (other : List ℕ) (rows : List Row) (n : ℕ) → length (textOf other rows n) ≤ longest other rows
+table-short other [] n = omega arith
+table-short other (row ∷ rows) n = short-cond (max (length (row .words)) (longest other rows)) (eqb (row .number) n) (row .words)
+    (textOf other rows n) (le-max-left _ _)
+    (omega (arith, table-short other rows n, le-max-right (length (row .words)) (longest other rows)))
+
+refusal-short : (n : ℕ) → length (refusalText n) ≤ 26
+unfolding refusalText refusals
+refusal-short n = table-short (ascii "refused") refusals n
+
+-- the parentheses and the newline are four more
+parentheses-short : (m : ℕ) (words : List ℕ) → length words ≤ m → length (inParentheses words) ≤ m + 4
+parentheses-short m words h = simp length-append (omega (arith, h))
+
+end-short : (n : ℕ) → length (endText n) ≤ 30
+unfolding endText
+end-short n = short-cond 30 (eqb n 0) newline (inParentheses (refusalText n)) (omega arith)
+    (parentheses-short 26 (refusalText n) (refusal-short n))
+
+attribute-short : (row : ℕ) → length (attributeText row) ≤ 18
+unfolding attributeText attributes
+attribute-short row = table-short (ascii "output filter mask") attributes row
+
+lines-short : (from to : ℕ) → length (linesText from to) ≤ 52
+unfolding linesText
+lines-short from to =
+    short-cond 52 (eqb from to) (ascii ", line " ++ decimalText from)
+    (ascii ", lines " ++ decimalText from ++ ascii " to " ++ decimalText to)
+    (omega (arith, decimal-short from))
+    (simp length-append (omega (arith, decimal-short from, decimal-short to)))
+
+entry-short : (h : Home) → length (entryText h) ≤ 74
+entry-short h =
+    window-holds (λ (text : List ℕ). length text ≤ 74) _ newline (omega arith)
+    (λ row width sub. parentheses-short 70 (attributeText row ++ linesText (width * (sub - 1) + 1) (width * sub))
+    (simp length-append (omega (arith, attribute-short row, lines-short (width * (sub - 1) + 1) (width * sub))))) h
+
+expected-short : (e : Expected) → length (expectedText e) ≤ 47
+expected-short Ex.Call = omega arith
+expected-short Ex.Byte = omega arith
+expected-short Ex.Small = omega arith
+expected-short Ex.Signed = omega arith
+expected-short Ex.Cause = omega arith
+expected-short Ex.Data = omega arith
+expected-short Ex.Slash = omega arith
+expected-short Ex.Fewer = omega arith
+expected-short Ex.End = omega arith
+expected-short Ex.Shorter = omega arith
+
+-- ---- lines
+
+pub plain-short : (n : ℕ) → length (plainLine n) ≤ 1024
+unfolding plainLine
+plain-short n = simp length-append (omega (arith, number-short n, end-short n))
+
+pub write-short : (n index sub : ℕ) → length (writeLine n index sub) ≤ 1024
+unfolding writeLine
+write-short n index sub = short-cond 1024 (eqb n 0) (ascii "0" ++ entryText (homeOf index sub)) (plainLine n)
+    (omega (arith, entry-short (homeOf index sub))) (plain-short n)
+
+take-short : (size : ℕ) (l : List ℕ) → length (take size l) ≤ length l
+take-short zero l = omega arith
+take-short (suc n) [] = omega arith
+take-short (suc n) (x ∷ l) = omega (arith, take-short n l)
+
+pub read-short : (n value size index sub : ℕ) → length (readLine n value size index sub) ≤ 1024
+unfolding readLine
+read-short n value size index sub =
+    short-cond 1024 (eqb n 0) (ascii "0 =" ++ bytesText (take size (fourBytes value)) ++ entryText (homeOf index sub)) (plainLine n)
+    (simp length-append (omega
+    (arith, bytes-short (take size (fourBytes value)), take-short size (fourBytes value), entry-short (homeOf index sub))))
+    (plain-short n)
+
+pub sample-short : (n : ℕ) (events : List ℕ) (channels : ℕ) → length events ≤ 64 → length (sampleLine n events channels) ≤ 1024
+unfolding sampleLine
+sample-short n events channels h = simp length-append
+    (omega (arith, h, number-short n, bytes-short events, places-short channels, end-short n))
+
+pub drive-short : (n : ℕ) (lines : List ℕ) (channels : List ℤ) → length lines ≤ 64 → length channels ≤ 64 → length
+    (driveLine n lines channels) ≤ 1024
+unfolding driveLine
+drive-short n lines channels h k = simp length-append
+    (omega (arith, h, k, number-short n, bytes-short lines, numbers-short channels, end-short n))
+
+pub unknown-short : (line : ℕ) (e : Expected) → length (unknownLine line e) ≤ 1024
+unfolding unknownLine
+unknown-short line e = simp length-append (omega (arith, decimal-short line, expected-short e))
+
+pub totals-short : (calls refused unknown : ℕ) → length (totalsText calls refused unknown) ≤ 1024
+unfolding totalsText
+totals-short calls refused unknown = simp length-append (omega (arith, decimal-short calls, decimal-short refused, decimal-short unknown))

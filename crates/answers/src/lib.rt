@@ -1,0 +1,171 @@
+// Answer lines: the call's number, what it answers, and words that help a person.
+use crate::tables::put_attribute;
+use crate::tables::put_expected;
+use crate::tables::put_meaning;
+use crate::text::put;
+use crate::text::put_all;
+use crate::text::put_bytes;
+use crate::text::put_decimal;
+use crate::text::put_long_hex;
+use crate::text::put_numbers;
+use crate::text::put_places;
+ghost use Rattle.profile.specs.Entries.{homeOf};
+ghost use Rattle.answers.specs.Texts.{Put};
+ghost use Rattle.answers.specs.Answers.{numberText, endText, linesText, entryText};
+ghost use Rattle.answers.specs.Answers.{plainLine, writeLine, readLine, sampleLine, driveLine, unknownLine};
+ghost use Rattle.answers.specs.Answers.{totalsText};
+use notation::Expected;
+use notation::items::first_bytes;
+use profile::Entry;
+use profile::Home;
+
+// Bytes put into a lent buffer.
+pub mod text;
+// Words from tables.
+pub mod tables;
+
+// The numbers of the papers are below 10, abort codes far above.
+fn put_number(out: &mut [u8], at: usize, number: u32) -> usize
+    ensures { λ r. ⌜ Put (numberText number) (now (out .entry)) at (now (out .exit)) r ⌝ }
+{
+    if number < 10 {
+        return put_decimal(out, at, number as u64);
+    }
+    put_long_hex(out, at, number)
+}
+
+// A call that answers its number alone.
+pub fn put_plain(out: &mut [u8], at: usize, number: u32) -> usize
+    ensures { λ r. ⌜ Put (plainLine number) (now (out .entry)) at (now (out .exit)) r ⌝ }
+{
+    let next = put_number(out, at, number);
+    end(out, next, number)
+}
+
+// An accepted read, by its value's `size` lowest bytes; a refused one answers its number alone.
+pub fn put_read(
+    out: &mut [u8],
+    at: usize,
+    number: u32,
+    value: u32,
+    size: usize,
+    index: u16,
+    sub: u8,
+) -> usize
+    ensures { λ r. ⌜ Put (readLine number value size index sub) (now (out .entry)) at (now (out .exit)) r ⌝ }
+{
+    if number != 0 {
+        return put_plain(out, at, number);
+    }
+    let bytes = [
+        (value % 256) as u8,
+        (value / 256 % 256) as u8,
+        (value / 65_536 % 256) as u8,
+        (value / 16_777_216) as u8,
+    ];
+    let next = put_all(out, at, b"0 =");
+    let last = put_bytes(out, next, first_bytes(&bytes, size));
+    end_access(out, last, index, sub)
+}
+
+pub fn put_write(out: &mut [u8], at: usize, number: u32, index: u16, sub: u8) -> usize
+    ensures { λ r. ⌜ Put (writeLine number index sub) (now (out .entry)) at (now (out .exit)) r ⌝ }
+{
+    if number != 0 {
+        return put_plain(out, at, number);
+    }
+    let next = put(out, at, b'0');
+    end_access(out, next, index, sub)
+}
+
+pub fn put_sample(out: &mut [u8], at: usize, number: u32, events: &[u8], channels: u16) -> usize
+    ensures { λ r. ⌜ Put (sampleLine number (now (events .entry)) channels) (now (out .entry)) at (now (out .exit)) r ⌝ }
+{
+    let first = put_number(out, at, number);
+    let second = put_all(out, first, b" events");
+    let third = put_bytes(out, second, events);
+    let fourth = put_all(out, third, b" /");
+    let last = put_places(out, fourth, channels);
+    end(out, last, number)
+}
+
+pub fn put_drive(out: &mut [u8], at: usize, number: u32, lines: &[u8], channels: &[i16]) -> usize
+    ensures { λ r. ⌜ Put (driveLine number (now (lines .entry)) (now (channels .entry))) (now (out .entry)) at (now (out .exit)) r ⌝ }
+{
+    let first = put_number(out, at, number);
+    let second = put_all(out, first, b" lines");
+    let third = put_bytes(out, second, lines);
+    let fourth = put_all(out, third, b" /");
+    let last = put_numbers(out, fourth, channels);
+    end(out, last, number)
+}
+
+// A refusal's meaning and the line's end.
+fn end(out: &mut [u8], at: usize, number: u32) -> usize
+    ensures { λ r. ⌜ Put (endText number) (now (out .entry)) at (now (out .exit)) r ⌝ }
+{
+    if number == 0 {
+        return put(out, at, b'\n');
+    }
+    let first = put_all(out, at, b" (");
+    let last = put_meaning(out, first, number);
+    put_all(out, last, b")\n")
+}
+
+// What an entry of digital lines is a window on, and the line's end.
+fn end_access(out: &mut [u8], at: usize, index: u16, sub: u8) -> usize
+    ensures { λ r. ⌜ Put (entryText (homeOf index sub)) (now (out .entry)) at (now (out .exit)) r ⌝ }
+{
+    let entry = Entry::find(index, sub);
+    let home = entry.home;
+    if let Home::Window(row, width, place) = home {
+        let first = put_all(out, at, b" (");
+        let second = put_attribute(out, first, row);
+        let last = put_lines(
+            out,
+            second,
+            (width * (place - 1) + 1) as u64,
+            (width * place) as u64,
+        );
+        return put_all(out, last, b")\n");
+    }
+    put(out, at, b'\n')
+}
+
+fn put_lines(out: &mut [u8], at: usize, from: u64, to: u64) -> usize
+    ensures { λ r. ⌜ Put (linesText from to) (now (out .entry)) at (now (out .exit)) r ⌝ }
+{
+    if from == to {
+        let next = put_all(out, at, b", line ");
+        return put_decimal(out, next, from);
+    }
+    let next = put_all(out, at, b", lines ");
+    let first = put_decimal(out, next, from);
+    let second = put_all(out, first, b" to ");
+    put_decimal(out, second, to)
+}
+
+// A line that is no call.
+pub fn put_unknown(out: &mut [u8], at: usize, line: u64, expected: Expected) -> usize
+    ensures { λ r. ⌜ Put (unknownLine line expected) (now (out .entry)) at (now (out .exit)) r ⌝ }
+{
+    let first = put_all(out, at, b"? line ");
+    let second = put_decimal(out, first, line);
+    let third = put_all(out, second, b": ");
+    let fourth = put_all(out, third, b"expected ");
+    let last = put_expected(out, fourth, expected);
+    put(out, last, b'\n')
+}
+
+// The last line: how many calls, how many of them refused, and how many lines that are no call.
+pub fn put_totals(out: &mut [u8], at: usize, calls: u64, refused: u64, unknown: u64) -> usize
+    ensures { λ r. ⌜ Put (totalsText calls refused unknown) (now (out .entry)) at (now (out .exit)) r ⌝ }
+{
+    let first = put(out, at, b'\n');
+    let second = put_decimal(out, first, calls);
+    let third = put_all(out, second, b" calls, ");
+    let fourth = put_decimal(out, third, refused);
+    let fifth = put_all(out, fourth, b" refused, ");
+    let sixth = put_decimal(out, fifth, unknown);
+    put_all(out, sixth, b" not understood\n")
+}

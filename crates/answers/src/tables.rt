@@ -1,0 +1,123 @@
+// Words for a number or for what was expected, from tables: a text with `;` between its entries.
+use crate::text::put_all;
+ghost use mathlib.Core.Path.{_≡_};
+ghost use mathlib.Core.Bool.{false};
+ghost use Rattle.notation.specs.Words.{InFront};
+ghost use Rattle.answers.specs.Texts.{Put};
+ghost use Rattle.answers.specs.Tables.{PutFrom, entryOf};
+ghost use Rattle.answers.specs.Answers.{refusalText, attributeText, expectedText, expectedPlace};
+use notation::Expected;
+use notation::words::back;
+use notation::words::front;
+use notation::words::until;
+use notation::words::without_first;
+use profile::refusals::NO_OBJECT;
+use profile::refusals::NO_SUB_INDEX;
+use profile::refusals::NOT_ALLOWED;
+use profile::refusals::READ_ONLY;
+use profile::refusals::STOPPED;
+use profile::refusals::TOO_HIGH;
+use profile::refusals::TOO_LONG;
+use profile::refusals::TOO_LOW;
+use profile::refusals::TOO_SHORT;
+
+// An attribute of the digital lines.
+pub fn put_attribute(out: &mut [u8], at: usize, row: usize) -> usize
+    ensures { λ r. ⌜ Put (attributeText row) (now (out .entry)) at (now (out .exit)) r ⌝ }
+{
+    let rows = [0, 1, 2, 3, 4, 5, 6, 7, 8, 9];
+    let words = b"input;input polarity;input filter;any change;low-to-high;high-to-low;\
+        output;output polarity;error mode;error value;output filter mask";
+    put_words(out, at, &rows, words, row as u64)
+}
+
+// What a refusal means.
+pub fn put_meaning(out: &mut [u8], at: usize, number: u32) -> usize
+    ensures { λ r. ⌜ Put (refusalText number) (now (out .entry)) at (now (out .exit)) r ⌝ }
+{
+    let numbers = [
+        1,
+        2,
+        3,
+        4,
+        5,
+        6,
+        STOPPED as u64,
+        NO_OBJECT as u64,
+        NO_SUB_INDEX as u64,
+        READ_ONLY as u64,
+        TOO_LONG as u64,
+        TOO_SHORT as u64,
+        NOT_ALLOWED as u64,
+        TOO_HIGH as u64,
+        TOO_LOW as u64,
+    ];
+    let words = b"node number out of range;no such command;not 16 digital bytes;\
+        not 16 analogue numbers;event buffer not 16 bytes;not 16 bytes and 8 numbers;\
+        node stopped;no such object;no such sub-index;read only;data too long;data too short;\
+        value not allowed;value too high;value too low;refused";
+    put_words(out, at, &numbers, words, number as u64)
+}
+
+// What should have stood in a line.
+pub fn put_expected(out: &mut [u8], at: usize, expected: Expected) -> usize
+    ensures { λ r. ⌜ Put (expectedText expected) (now (out .entry)) at (now (out .exit)) r ⌝ }
+{
+    let words = b"a call or an index of 1 to 4 hexadecimal digits;1 or 2 hexadecimal digits;\
+        a number from 0 to 255;a number from -32768 to 32767;internal or communication;\
+        = between spaces, or the end of the line;/ and numbers;at most 64 in a buffer;\
+        the end of the line;at most 1,024 bytes";
+    let n = expected_place(expected);
+    put_all(out, at, entry(words, n))
+}
+
+// Its place among the entries.
+fn expected_place(expected: Expected) -> usize
+    ensures { λ r. ⌜ r ≡ expectedPlace expected ⌝ }
+{
+    match expected {
+        Expected::Call => 0,
+        Expected::Byte => 1,
+        Expected::Small => 2,
+        Expected::Signed => 3,
+        Expected::Cause => 4,
+        Expected::Data => 5,
+        Expected::Slash => 6,
+        Expected::Fewer => 7,
+        Expected::End => 8,
+        Expected::Shorter => 9,
+    }
+}
+
+// From a table: the entry of a number's place among the numbers. The last entry is for any other number.
+fn put_words(out: &mut [u8], at: usize, numbers: &[u64], words: &[u8], number: u64) -> usize
+    ensures { λ r. ⌜ PutFrom (now (numbers .entry)) (now (words .entry)) number (now (out .entry)) at (now (out .exit)) r ⌝ }
+{
+    let n = place_of(numbers, number);
+    put_all(out, at, entry(words, n))
+}
+
+// How many numbers stand before `number`; all of them where it is none.
+fn place_of(numbers: &[u64], number: u64) -> usize
+    ensures { λ r. ⌜ InFront false number (now (numbers .entry)) r ⌝ }
+{
+    let mut i = 0;
+    while i < numbers.len() {
+        if numbers[i] == number {
+            return i;
+        }
+        i += 1;
+    }
+    i
+}
+
+// The nth of the entries that a `;` parts.
+fn entry(words: &[u8], n: usize) -> &[u8]
+    ensures { λ r. ⌜ now r ≡ entryOf n (now (words .entry)) ⌝ }
+{
+    let end = until(words, b';');
+    if n == 0 {
+        return front(words, end);
+    }
+    entry(without_first(back(words, end)), n - 1)
+}

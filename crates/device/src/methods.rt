@@ -1,0 +1,232 @@
+// The eight calls as methods: the device comes by value and goes back with the answer. Each copies the arrays, lends them to the call in
+// place, and stores them back.
+use crate::Answer;
+use crate::Created;
+use crate::Device;
+use crate::ReadAnswer;
+use crate::SampleAnswer;
+use crate::network;
+use crate::objects;
+use crate::process;
+use crate::store::node_at;
+use profile::Cause;
+use profile::Node;
+ghost use mathlib.Core.Path.{_≡_};
+ghost use Rattle.profile.specs.Calls.{Call};
+ghost use Rattle.device.specs.View.{nodeAt, readAnswer, sampleAnswer, plainAnswer, driveAnswer};
+ghost use Rattle.device.specs.Promises.{CreatedAs, Ensured};
+
+impl Device {
+    // A refused node number gives a device with node number 127.
+    pub fn create(number: u8) -> Created
+        ensures { λ r. ⌜ CreatedAs number r ⌝ }
+    {
+        let mut octets = [0u8; 21];
+        let mut flags = [false; 12];
+        let mut words = [0u64; 28];
+        let mut limits = [0i32; 32];
+        let mut deltas = [0u32; 48];
+        let mut values = [0i16; 56];
+        let refused = network::create(
+            &mut octets,
+            &mut flags,
+            &mut words,
+            &mut limits,
+            &mut deltas,
+            &mut values,
+            number,
+        );
+        let device = Device {
+            octets,
+            flags,
+            words,
+            limits,
+            deltas,
+            values,
+        };
+        Created {
+            number: refused,
+            device,
+        }
+    }
+
+    pub fn read(mut self, index: u16, sub: u8) -> ReadAnswer
+        ensures { λ r. ⌜ Ensured self (Call.read index sub) (readAnswer r) (r .device) ⌝ }
+    {
+        let mut octets = self.octets;
+        let flags = self.flags;
+        let words = self.words;
+        let limits = self.limits;
+        let deltas = self.deltas;
+        let values = self.values;
+        let done = objects::read(
+            &mut octets,
+            &flags,
+            &words,
+            &limits,
+            &deltas,
+            &values,
+            index,
+            sub,
+        );
+        self.octets = octets;
+        ReadAnswer {
+            number: done.number,
+            value: done.value,
+            size: done.size,
+            device: self,
+        }
+    }
+
+    pub fn write(mut self, index: u16, sub: u8, bytes: &[u8]) -> Answer
+        ensures { λ r. ⌜ Ensured self (Call.write index sub (now (bytes .entry))) (plainAnswer r) (r .device) ⌝ }
+    {
+        let mut octets = self.octets;
+        let mut flags = self.flags;
+        let mut words = self.words;
+        let mut limits = self.limits;
+        let mut deltas = self.deltas;
+        let mut values = self.values;
+        let number = objects::write(
+            &mut octets,
+            &mut flags,
+            &mut words,
+            &mut limits,
+            &mut deltas,
+            &mut values,
+            index,
+            sub,
+            bytes,
+        );
+        self.octets = octets;
+        self.flags = flags;
+        self.words = words;
+        self.limits = limits;
+        self.deltas = deltas;
+        self.values = values;
+        Answer {
+            number,
+            device: self,
+        }
+    }
+
+    pub fn sample(mut self, digital: &[u8], analogue: &[i16], events: &mut [u8]) -> SampleAnswer
+        ensures { λ r. ⌜ Ensured self (Call.sample (now (digital .entry)) (now (analogue .entry)) (now (events .entry)))
+            (sampleAnswer r (now (events .exit))) (r .device) ⌝ }
+    {
+        let mut octets = self.octets;
+        let flags = self.flags;
+        let mut words = self.words;
+        let limits = self.limits;
+        let deltas = self.deltas;
+        let mut values = self.values;
+        let done = process::sample(
+            &mut octets,
+            &flags,
+            &mut words,
+            &limits,
+            &deltas,
+            &mut values,
+            digital,
+            analogue,
+            events,
+        );
+        self.octets = octets;
+        self.words = words;
+        self.values = values;
+        SampleAnswer {
+            number: done.number,
+            events: done.events,
+            device: self,
+        }
+    }
+
+    pub fn command(mut self, code: u8, node: u8) -> Answer
+        ensures { λ r. ⌜ Ensured self (Call.command code node) (plainAnswer r) (r .device) ⌝ }
+    {
+        let mut octets = self.octets;
+        let mut flags = self.flags;
+        let mut words = self.words;
+        let mut limits = self.limits;
+        let mut deltas = self.deltas;
+        let mut values = self.values;
+        let number = network::command(
+            &mut octets,
+            &mut flags,
+            &mut words,
+            &mut limits,
+            &mut deltas,
+            &mut values,
+            code,
+            node,
+        );
+        self.octets = octets;
+        self.flags = flags;
+        self.words = words;
+        self.limits = limits;
+        self.deltas = deltas;
+        self.values = values;
+        Answer {
+            number,
+            device: self,
+        }
+    }
+
+    pub fn raise(mut self, cause: Cause) -> Answer
+        ensures { λ r. ⌜ Ensured self (Call.raise cause) (plainAnswer r) (r .device) ⌝ }
+    {
+        let mut octets = self.octets;
+        let mut flags = self.flags;
+        let mut words = self.words;
+        let mut values = self.values;
+        let number = network::raise(&mut octets, &mut flags, &mut words, &mut values, cause);
+        self.octets = octets;
+        self.flags = flags;
+        self.words = words;
+        self.values = values;
+        Answer {
+            number,
+            device: self,
+        }
+    }
+
+    pub fn clear(mut self, cause: Cause) -> Answer
+        ensures { λ r. ⌜ Ensured self (Call.clear cause) (plainAnswer r) (r .device) ⌝ }
+    {
+        let mut octets = self.octets;
+        let mut flags = self.flags;
+        let mut words = self.words;
+        let mut values = self.values;
+        let number = network::clear(&mut octets, &mut flags, &mut words, &mut values, cause);
+        self.octets = octets;
+        self.flags = flags;
+        self.words = words;
+        self.values = values;
+        Answer {
+            number,
+            device: self,
+        }
+    }
+
+    pub fn drive(self, lines: &mut [u8], channels: &mut [i16]) -> Answer
+        ensures { λ r. ⌜ Ensured self (Call.drive (now (lines .entry)) (now (channels .entry)))
+            (driveAnswer r (now (lines .exit)) (now (channels .exit))) (r .device) ⌝ }
+    {
+        let words = self.words;
+        let values = self.values;
+        let number = process::drive(&words, &values, lines, channels);
+        Answer {
+            number,
+            device: self,
+        }
+    }
+
+    // The node that the arrays hold.
+    pub fn node(self) -> Node
+        ensures { λ r. ⌜ r ≡ nodeAt (self .octets) (self .flags) ⌝ }
+    {
+        let octets = self.octets;
+        let flags = self.flags;
+        node_at(&octets, &flags)
+    }
+}
