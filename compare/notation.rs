@@ -1,10 +1,11 @@
 //! The notation of a list of calls, read from its text alone: a line of bytes becomes nothing, a
-//! call with its buffers, or not understood; a played call becomes its answer line.
+//! call with its buffers, expected words, or not understood; a played call becomes its answer line.
 
 use crate::calls::{Answer, Cause, Machine};
 
 const MOST_BYTES_OF_A_LINE: usize = 1024;
 const MOST_ITEMS_OF_A_BUFFER: usize = 64;
+pub const BYTE_ORDER_MARK: &[u8] = b"\xEF\xBB\xBF";
 
 /// A call with its lent buffers; after it is played they hold what it left in them.
 #[derive(Clone, Debug, PartialEq)]
@@ -19,34 +20,55 @@ pub enum Asked {
     Drive { lines: Vec<u8>, channels: Vec<i16> },
 }
 
-#[derive(Debug, PartialEq)]
-pub enum Line {
+pub enum Line<'a> {
     Nothing,
     Call(Asked),
+    /// What the last answer line has to be, word by word.
+    Expects(Vec<&'a [u8]>),
     NotUnderstood,
 }
 
 /// The lines of a list, each as it stands before its newline; the last may lack the newline.
 pub fn lines_of(list: &[u8]) -> impl Iterator<Item = &[u8]> {
+    // A second mark belongs to the first line.
+    let list = list.strip_prefix(BYTE_ORDER_MARK).unwrap_or(list);
     list.split_inclusive(|byte| *byte == b'\n').map(|line| line.strip_suffix(b"\n").unwrap_or(line))
 }
 
+/// A tab counts as a space.
+pub fn words_in(text: &[u8]) -> Vec<&[u8]> {
+    text.split(|byte| matches!(byte, b' ' | b'\t')).filter(|word| !word.is_empty()).collect()
+}
+
+/// What stands before the first such byte, or all.
+fn before(text: &[u8], mark: u8) -> &[u8] {
+    text.split(|byte| *byte == mark).next().unwrap_or(text)
+}
+
+/// The words of an answer, written or expected; those in parentheses are for a person.
+pub fn answer_words(text: &[u8]) -> Vec<&[u8]> {
+    words_in(before(text, b'('))
+}
+
 /// What a line says, given without its newline.
-pub fn understand(line: &[u8]) -> Line {
+pub fn understand(line: &[u8]) -> Line<'_> {
     // A carriage return is a byte before the newline, so it counts.
     if line.len() > MOST_BYTES_OF_A_LINE {
         return Line::NotUnderstood;
     }
     // One is passed over, also where the list ends without a newline; a second is a byte like any other.
     let line = line.strip_suffix(b"\r").unwrap_or(line);
-    let before_the_comment = line.split(|byte| *byte == b'#').next().unwrap_or(line);
-    let words: Vec<&[u8]> =
-        before_the_comment.split(|byte| *byte == b' ').filter(|word| !word.is_empty()).collect();
-    // A line of spaces, also before a comment, says as little as an empty one.
-    if words.is_empty() {
-        return Line::Nothing;
+    let said = before(line, b'#');
+    let words = words_in(said);
+    match words.first() {
+        // A line of spaces, also before a comment, says as little as an empty one.
+        None => Line::Nothing,
+        Some([b'>', ..]) => {
+            let sign = said.iter().position(|byte| *byte == b'>').unwrap_or(0);
+            Line::Expects(answer_words(&said[sign + 1..]))
+        }
+        Some(_) => call_of(&words).map_or(Line::NotUnderstood, Line::Call),
     }
-    call_of(&words).map_or(Line::NotUnderstood, Line::Call)
 }
 
 fn call_of(words: &[&[u8]]) -> Option<Asked> {

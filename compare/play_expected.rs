@@ -1,32 +1,8 @@
-//! What the notation and document 01 expect `play` to answer to a list, line by line.
+//! One answer line as the notation and document 01 expect it, and the words that may follow it.
 
-use crate::calls::{Answer, Machine};
-use crate::notation::{lines_of, understand, Asked, Line};
-use crate::paper::Device;
+use crate::calls::Answer;
+use crate::notation::Asked;
 use crate::paper_objects::{object, Attribute, Object};
-
-#[derive(Clone, Copy, Default)]
-pub struct Tally {
-    pub lines: u64,
-    pub passed_over: u64,
-    pub calls: u64,
-    pub refused: u64,
-    pub not_understood: u64,
-}
-
-impl Tally {
-    pub fn add(&mut self, other: &Tally) {
-        self.lines += other.lines;
-        self.passed_over += other.passed_over;
-        self.calls += other.calls;
-        self.refused += other.refused;
-        self.not_understood += other.not_understood;
-    }
-
-    pub fn last_line(&self) -> String {
-        format!("{} calls, {} refused, {} not understood", self.calls, self.refused, self.not_understood)
-    }
-}
 
 /// What may stand after the answer, where the notation says it.
 #[derive(Debug, PartialEq)]
@@ -38,44 +14,18 @@ pub enum Words {
     /// An accepted digital entry says its attribute and lines.
     Window(String),
     AnyOrNone,
+    None,
 }
 
 pub struct Expected {
     /// Counted from 1.
-    pub line: usize,
-    pub answer: String,
+    pub line: u64,
+    pub answer: Vec<u8>,
     pub words: Words,
 }
 
-/// The answer lines of a list before the empty line and the totals.
-pub fn expected_of(list: &[u8]) -> (Vec<Expected>, Tally) {
-    // A list whose first call is no create plays on `create 1`.
-    let (_, mut device) = Device::create(1);
-    let mut tally = Tally::default();
-    let mut answers = Vec::new();
-    for (at, text) in lines_of(list).enumerate() {
-        let line = at + 1;
-        tally.lines += 1;
-        match understand(text) {
-            Line::Nothing => tally.passed_over += 1,
-            Line::NotUnderstood => {
-                tally.not_understood += 1;
-                let answer = format!("? line {line}: ");
-                answers.push(Expected { line, answer, words: Words::WhatWasExpected });
-            }
-            Line::Call(mut asked) => {
-                let answer = asked.play(&mut device);
-                tally.calls += 1;
-                tally.refused += u64::from(answer.number != 0);
-                let words = words_of(&asked, &answer);
-                answers.push(Expected { line, answer: asked.answer_line(&answer), words });
-            }
-        }
-    }
-    (answers, tally)
-}
-
-fn words_of(asked: &Asked, answer: &Answer) -> Words {
+/// The words that follow a played call's answer.
+pub fn words_after(asked: &Asked, answer: &Answer) -> Words {
     if answer.number != 0 {
         return Words::Meaning;
     }
@@ -119,7 +69,7 @@ fn name_of(attribute: Attribute) -> &'static str {
 impl Expected {
     /// Whether the line a program wrote is this answer, with words of the right form.
     pub fn is_met_by(&self, wrote: &[u8]) -> bool {
-        let Some(rest) = wrote.strip_prefix(self.answer.as_bytes()) else {
+        let Some(rest) = wrote.strip_prefix(self.answer.as_slice()) else {
             return false;
         };
         if !rest.iter().all(|byte| (b' '..=b'~').contains(byte)) {
@@ -131,6 +81,7 @@ impl Expected {
             Words::Meaning => in_parentheses.is_some_and(|words| !words.is_empty()),
             Words::Window(window) => in_parentheses == Some(window.as_bytes()),
             Words::AnyOrNone => rest.is_empty() || in_parentheses.is_some_and(|words| !words.is_empty()),
+            Words::None => rest.is_empty(),
         }
     }
 }

@@ -1,19 +1,38 @@
-//! Random lists as text: calls spelled in every way, empty lines and comments, lines at the length
-//! limit, and lines spoiled word by word or byte by byte. The same seed makes the same list.
+//! Random lists as text: calls spelled in every way, expecting lines, empty lines and comments, lines at
+//! the length limit, and lines spoiled word by word or byte by byte. The same seed makes the same list.
 
 use crate::calls::Call;
 use crate::lists::{Random, Source};
-use crate::texts_words::{create, odd_word, words_of, Word};
+use crate::notation::BYTE_ORDER_MARK;
+use crate::play_model::Player;
+use crate::texts_expects::{expecting_line, length_near_the_limit};
+use crate::texts_spoil::{spoil_a_byte, spoil_a_word};
+use crate::texts_words::{blanks, create, words_of, Word};
 
 const LINES_OF_A_LONG_LIST: usize = 100_000;
-/// What a byte is replaced by where any byte would seldom hurt.
-const TELLING_BYTES: &[u8] = b" #=/:-+0123456789abcdefABCDEFgGxz\t\r\0\x7F\x80\xFF\n";
+/// A byte order mark, two, parts of one, and one that is not at the very start.
+const STARTS: [&[u8]; 9] = [
+    BYTE_ORDER_MARK,
+    BYTE_ORDER_MARK,
+    b"\xEF\xBB\xBF\xEF\xBB\xBF",
+    b"\xEF",
+    b"\xEF\xBB",
+    b"\xBB\xBF",
+    b"\xEF\xBB\xBE",
+    b"\xEF\xEF\xBB\xBF",
+    b" \xEF\xBB\xBF",
+];
 
 pub struct Texts {
     random: Random,
     source: Source,
     /// In percent of the lines that hold a call.
     spoiled: usize,
+    /// Expecting lines, in percent of all.
+    expecting: usize,
+    /// Plays what is written so far, so that an expecting line can be right.
+    player: Player,
+    played: usize,
 }
 
 /// The list of a seed; every thousandth is long.
@@ -23,18 +42,28 @@ pub fn list_of(seed: u64) -> Vec<u8> {
     let spoiled = random.pick(&[0, 4, 20, 60]);
     let some_hundred = 100 + random.below(400);
     let lines = if seed % 1000 == 0 { LINES_OF_A_LONG_LIST } else { some_hundred };
-    Texts { random, source: Source::new(seed), spoiled }.list(lines)
+    let expecting = random.pick(&[0, 5, 30, 60]);
+    let source = Source::new(seed);
+    Texts { random, source, spoiled, expecting, player: Player::new(), played: 0 }.list(lines)
 }
 
 impl Texts {
     fn list(&mut self, lines: usize) -> Vec<u8> {
         let mut list = Vec::new();
+        if self.random.chance(25) {
+            list.extend(self.random.pick(&STARTS));
+        }
+        if list == BYTE_ORDER_MARK {
+            self.played = list.len();
+        }
+        list.extend(self.opening());
         if self.random.chance(80) {
             let first = create(self.source.number(), &mut self.random);
             list.extend(self.spaced(&first));
             list.push(b'\n');
         }
         for _ in 0..lines {
+            self.play_on(&list);
             list.extend(self.line());
             list.extend(self.random.pick(&LINE_ENDS));
         }
@@ -44,7 +73,33 @@ impl Texts {
         list
     }
 
+    /// At times a few lines before the first call: one at the limit, right behind a mark, or expecting ones.
+    fn opening(&mut self) -> Vec<u8> {
+        let mut lines = Vec::new();
+        for _ in 0..self.random.pick(&[0, 0, 0, 1, 3]) {
+            lines.extend(match self.random.below(4) {
+                0 => self.long_line(),
+                1 => self.line_without_a_call(),
+                _ => expecting_line(b"0", &mut self.random),
+            });
+            lines.push(b'\n');
+        }
+        lines
+    }
+
+    /// A line may hold a newline where it was spoiled, so the list is read again.
+    fn play_on(&mut self, list: &[u8]) {
+        while let Some(length) = list[self.played..].iter().position(|byte| *byte == b'\n') {
+            self.player.take(&list[self.played..self.played + length]);
+            self.played += length + 1;
+        }
+    }
+
     fn line(&mut self) -> Vec<u8> {
+        if self.random.chance(self.expecting) {
+            let last = self.player.last_answer().unwrap_or(b"0");
+            return expecting_line(last, &mut self.random);
+        }
         match self.random.below(100) {
             0..4 => self.line_without_a_call(),
             4 => self.long_line(),
@@ -79,10 +134,10 @@ impl Texts {
     /// Mostly single spaces; at times several, also before and after, and a comment.
     fn spaced(&mut self, words: &[Word]) -> Vec<u8> {
         let most = if self.random.chance(15) { 4 } else { 1 };
-        let mut line = vec![b' '; self.random.below(most)];
+        let mut line = blanks(self.random.below(most), &mut self.random);
         for word in words {
             line.extend(word);
-            line.resize(line.len() + 1 + self.random.below(most), b' ');
+            line.extend(blanks(1 + self.random.below(most), &mut self.random));
         }
         if most == 1 || self.random.chance(30) {
             line.pop();
@@ -101,7 +156,7 @@ impl Texts {
     }
 
     fn line_without_a_call(&mut self) -> Vec<u8> {
-        let spaces = vec![b' '; self.random.below(5)];
+        let spaces = blanks(self.random.below(5), &mut self.random);
         match self.random.below(5) {
             0 | 1 => Vec::new(),
             2 => spaces,
@@ -120,11 +175,7 @@ impl Texts {
 
     /// A call brought to a length at the limit or far beyond it, by spaces, a comment or zeros.
     fn long_line(&mut self) -> Vec<u8> {
-        let length = match self.random.below(20) {
-            0..16 => 1022 + self.random.below(6),
-            16..19 => 1028 + self.random.below(4000),
-            _ => 65_530 + self.random.below(12),
-        };
+        let length = length_near_the_limit(&mut self.random);
         let words = self.words_of_a_call();
         let mut line = self.spaced(&words);
         let missing = length.saturating_sub(line.len());
@@ -149,53 +200,14 @@ impl Texts {
         if self.random.chance(30) {
             let mut line = self.spaced(&words);
             for _ in 0..1 + self.random.below(3) {
-                self.spoil_a_byte(&mut line);
+                spoil_a_byte(&mut line, &mut self.random);
             }
             return line;
         }
         for _ in 0..self.random.pick(&[1, 1, 1, 2]) {
-            self.spoil_a_word(&mut words);
+            spoil_a_word(&mut words, &mut self.random);
         }
         self.spaced(&words)
-    }
-
-    fn spoil_a_word(&mut self, words: &mut Vec<Word>) {
-        if words.is_empty() {
-            return;
-        }
-        // The last words of a long line are as telling as the first two, where the shape stands.
-        let any = self.random.below(words.len());
-        let at = self.random.pick(&[any, any, 0, 1, words.len() - 1]).min(words.len() - 1);
-        let odd = odd_word(&mut self.random);
-        match self.random.below(10) {
-            0 => drop(words.remove(at)),
-            1 => words.insert(at, words[at].clone()),
-            2 | 3 => words[at] = odd,
-            4 => words.insert(at, odd),
-            5 => words.push(odd),
-            6 => words[at].extend(odd),
-            7 => words[at] = [odd, words[at].clone()].concat(),
-            8 => words[at].make_ascii_uppercase(),
-            _ => {
-                let glued = words.drain(at..words.len().min(at + 2)).collect::<Vec<Word>>().concat();
-                words.insert(at, glued);
-            }
-        }
-    }
-
-    fn spoil_a_byte(&mut self, line: &mut Vec<u8>) {
-        if line.is_empty() {
-            return;
-        }
-        let at = self.random.below(line.len());
-        let byte =
-            if self.random.chance(80) { self.random.pick(TELLING_BYTES) } else { self.random.next() as u8 };
-        match self.random.below(4) {
-            0 => drop(line.remove(at)),
-            1 => line.insert(at, line[at]),
-            2 => line[at] = byte,
-            _ => line.insert(self.random.below(line.len() + 1), byte),
-        }
     }
 }
 
@@ -208,5 +220,8 @@ const LINE_ENDS: [&[u8]; 40] = {
     ends[3] = b"\r\n";
     ends[4] = b" \r\n";
     ends[5] = b" \n";
+    ends[6] = b"\t\n";
+    ends[7] = b"\t\r\n";
+    ends[8] = b"\r\r\n";
     ends
 };

@@ -1,25 +1,36 @@
 //! Lists that leave nothing out: every index, every command, every number, every short line.
 
 use crate::lists::objects;
+use crate::notation::BYTE_ORDER_MARK;
 
 /// A list with the name it is blamed by.
 pub struct Named {
-    pub name: &'static str,
+    pub name: String,
     pub list: Vec<u8>,
 }
 
+fn named(name: &str, list: Vec<u8>) -> Named {
+    Named { name: name.into(), list }
+}
+
 pub fn lists_of_everything() -> Vec<Named> {
-    vec![
-        Named { name: "every index", list: every_index() },
-        Named { name: "every sub-index and size", list: every_sub_index_and_size() },
-        Named { name: "every command", list: every_command() },
-        Named { name: "every number", list: every_number() },
-        Named { name: "every pair of bytes alone", list: every_pair_after(b"") },
-        Named { name: "every pair of bytes as data", list: every_pair_after(b"6200:1 = ") },
-        Named { name: "every pair of bytes as a sub-index", list: every_pair_after(b"6120:") },
-        Named { name: "every pair of bytes as a node number", list: every_pair_after(b"create ") },
-        Named { name: "every pair of bytes after a call", list: every_pair_after(b"drive") },
-    ]
+    let mut lists = vec![
+        named("every index", every_index()),
+        named("every sub-index and size", every_sub_index_and_size()),
+        named("every command", every_command()),
+        named("every number", every_number()),
+        named("every pair of bytes alone", every_pair(b"", b"")),
+        named("every pair of bytes as data", every_pair(b"6200:1 = ", b"")),
+        named("every pair of bytes as a sub-index", every_pair(b"6120:", b"")),
+        named("every pair of bytes as a node number", every_pair(b"create ", b"")),
+        named("every pair of bytes after a call", every_pair(b"drive", b"")),
+        named("every pair of bytes expected", [b"create 5\n", &every_pair(b">", b"")[..]].concat()),
+        named("every pair of bytes before a sign", [b"create 5\n", &every_pair(b"", b"> 0")[..]].concat()),
+        named("every pair of bytes between words", [b"6200:1\n", &every_pair(b"> 0 =", b"00")[..]].concat()),
+        named("every length near the limit", every_length_near_the_limit()),
+    ];
+    lists.extend(every_start());
+    lists
 }
 
 fn every_index() -> Vec<u8> {
@@ -61,12 +72,59 @@ fn every_number() -> Vec<u8> {
     list.into_bytes()
 }
 
-fn every_pair_after(start: &[u8]) -> Vec<u8> {
+fn every_pair(start: &[u8], end: &[u8]) -> Vec<u8> {
     let mut list = Vec::new();
     for pair in 0..=u16::MAX {
         list.extend(start);
         list.extend(pair.to_be_bytes());
+        list.extend(end);
         list.push(b'\n');
     }
     list
+}
+
+/// Lines that are right, made longer by what says nothing; the same after a line that is no call.
+fn every_length_near_the_limit() -> Vec<u8> {
+    let mut list = Vec::new();
+    for length in 1000..1050 {
+        for filler in [b' ', b'\t', b'#', b'('] {
+            for end in [b"\n".as_slice(), b"\r\n"] {
+                list.extend(b"6200:1\n> 0 = 00");
+                list.resize(list.len() + length - 8, filler);
+                list.extend(end);
+                list.extend(b"> 0 = 00\n>");
+                list.resize(list.len() + length - 1, b'0');
+                list.extend(end);
+                list.push(b'>');
+                list.extend(b"0 ".repeat(length).iter().take(length - 1));
+                list.extend(end);
+                list.resize(list.len() + length - 3, b' ');
+                list.extend(b"> 0");
+                list.extend(end);
+            }
+        }
+    }
+    list
+}
+
+/// Up to four bytes that a byte order mark or a line's end may hold, alone and before lines; several marks,
+/// and a mark before a line at the limit.
+fn every_start() -> Vec<Named> {
+    let mut starts: Vec<Vec<u8>> = vec![Vec::new()];
+    let mut from = 0;
+    while starts[from].len() < 4 {
+        for byte in [0xEF, 0xBB, 0xBF, b'\n'] {
+            starts.push([&starts[from], &[byte][..]].concat());
+        }
+        from += 1;
+    }
+    let mark = BYTE_ORDER_MARK;
+    starts.extend([[mark, mark].concat(), [mark, b" ", mark].concat(), [mark, mark, mark].concat()]);
+    starts.extend((1010..1030).map(|length| [mark, &vec![b' '; length]].concat()));
+    let mut lists = Vec::new();
+    for (at, start) in starts.into_iter().enumerate() {
+        lists.push(named(&format!("start {at} with lines"), [&start, &b"6200:1\n> 0 = 00\n"[..]].concat()));
+        lists.push(named(&format!("start {at}"), start));
+    }
+    lists
 }

@@ -1,33 +1,14 @@
-//! A call as the words of a line, in every way the notation lets it be spelled, and words that are
-//! wrong in most places.
+//! A call as the words of a line, in every way the notation lets it be spelled.
 
 use crate::calls::{Call, Cause};
 use crate::lists::Random;
 
 pub type Word = Vec<u8>;
 
-/// Numbers at the edges of their types, entries and bytes with too many or no digits, words of
-/// other calls, and bytes that are no part of the notation; a space stands between two.
-const ODD_WORDS: &[u8] = b"-32769 -32768 -32767 32767 32768 65535 65536 -65536 127 128 254 255 256 257 261 \
-    -1 -0 -00 -5 --5 5- - + +0 +5 0 00 000 0005 4294967295 4294967296 4294967301 -4294967297 \
-    9223372036854775808 18446744073709551616 18446744073709551621 -18446744073709551617 0x10 1.5 1,000 1e3 1_0 \
-    6200: :1 : 6200::1 6200:1:1 6200:100 6200:001 6200:-1 6200:+1 6200:g 06200:1 06200 16200:1 620g:1 6200;1 \
-    6200.1 6200:1= =6200:1 ADD f FG G 100 0FF 0xF Fh .. = == =01 01= / // /1 1/ # ##x start drive internal \
-    communication interna internals all Internal pre- reset reset_node \t \r \0 \x0B \xFF\xFE \xC2\xA0";
-
-pub fn odd_word(random: &mut Random) -> Word {
-    let many = 1 + random.below(400);
-    match random.below(40) {
-        0 => vec![b'9'; many],
-        1 => [vec![b'0'; many], b"7".to_vec()].concat(),
-        2 => [b"-".to_vec(), vec![b'0'; many], b"7".to_vec()].concat(),
-        3 => vec![random.next() as u8],
-        4 => decimal(random.below(300) as i32, random),
-        _ => {
-            let words: Vec<&[u8]> = ODD_WORDS.split(|byte| *byte == b' ').collect();
-            random.pick(&words).to_vec()
-        }
-    }
+/// Mostly spaces; a tab counts as one.
+pub fn blanks(many: usize, random: &mut Random) -> Vec<u8> {
+    let tabs = if random.chance(5) { 50 } else { 0 };
+    (0..many).map(|_| if random.chance(tabs) { b'\t' } else { b' ' }).collect()
 }
 
 /// At least the digits the value needs, at most `most`, in either case.
@@ -39,7 +20,7 @@ fn hexadecimal(value: u32, most: usize, random: &mut Random) -> Word {
     word
 }
 
-fn decimal(value: i32, random: &mut Random) -> Word {
+pub fn decimal(value: i32, random: &mut Random) -> Word {
     let sign = if value < 0 { "-" } else { "" };
     let zeros = if random.chance(3) { random.below(30) } else { 0 };
     format!("{sign}{}{}", "0".repeat(zeros), value.unsigned_abs()).into_bytes()

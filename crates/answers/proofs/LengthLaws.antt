@@ -1,7 +1,7 @@
 -- How long an answer can be: no line has more than 1,024 bytes.
 -- Assumes nothing.
 use mathlib.Core.Path.{_≡_, refl, subst}
-use mathlib.Core.Bool.{Bool, true, false, cond}
+use mathlib.Core.Bool.{Bool, true, false, cond, _&&_}
 use mathlib.Core.List.{List, [], _∷_, _++_}
 use Prim.Native.Nat.{ℕ, zero, suc, _+_, _-_, _*_, _/_, _%_, _^_, _≤_, _<_, max}
 use native.Mathlib.Nat.{pow-suc, suc-mul, div-lt-iff-lt-mul, le-max-left, le-max-right}
@@ -18,12 +18,13 @@ use Rattle.profile.proofs.HomeLaws.{window-holds}
 use Rattle.notation.specs.declared.Expected.{Expected}
 use Rattle.notation.specs.declared.Expected.the-variants as Ex
 use Rattle.notation.specs.Ascii.{ascii}
+use Rattle.notation.specs.Words.{withByte, piecesOf, withoutEmpty, wordsOf}
 use Rattle.answers.specs.Tables.{Row, textOf}
 use Rattle.answers.specs.Texts.{hexText, longHexText, placesOf, decimalText, bitsText, eachText, bytesText, numbersText, placeText}
-use Rattle.answers.specs.Texts.{placesFrom, placesText}
+use Rattle.answers.specs.Texts.{wordsText, placesFrom, placesText}
 use Rattle.answers.specs.Answers.{newline, inParentheses, numberText, refusals, refusalText, endText, attributes, linesText}
 use Rattle.answers.specs.Answers.{attributeText, entryText, plainLine, writeLine, fourBytes, readLine, sampleLine, driveLine}
-use Rattle.answers.specs.Answers.{expectedText, unknownLine, totalsText}
+use Rattle.answers.specs.Answers.{expectedText, unknownLine, unmetLine, totalsText, judgedText}
 use Rattle.answers.proofs.ReadBack.{digits-length}
 
 -- one of two texts
@@ -119,7 +120,31 @@ places-short : (bits : ℕ) → length (placesText bits) ≤ 336
 unfolding placesText
 places-short bits = omega (arith, places-from-short 16 1 bits)
 
--- ---- words
+-- a text's words with a space before each take no more than the text and one space: each but the first has one before it there too
+pieces-long : (l : List ℕ) → length (wordsText (piecesOf l)) ≡ length l + 1
+pieces-long [] = refl
+pieces-long (x ∷ l) = at (eqb x 32) (pieces-long l)
+  where
+    grows : (ps : List (List ℕ)) → length (wordsText ps) ≡ length l + 1 → length (wordsText (withByte x ps)) ≡ length l + 2
+    grows [] e = absurd (omega (arith, e))
+    grows (p ∷ ps) e = omega (arith, e)
+
+    at : (t : Bool) → length (wordsText (piecesOf l)) ≡ length l + 1
+        → length (wordsText (cond t ([] ∷ piecesOf l) (withByte x (piecesOf l)))) ≡ length (x ∷ l) + 1
+    at true e = omega (arith, e)
+    at false e = omega (arith, grows (piecesOf l) e)
+
+without-empty-short : (ps : List (List ℕ)) → length (wordsText (withoutEmpty ps)) ≤ length (wordsText ps)
+without-empty-short [] = omega arith
+without-empty-short ([] ∷ ps) = omega (arith, without-empty-short ps)
+without-empty-short ((x ∷ p) ∷ ps) =
+    omega (arith, without-empty-short ps, length-append p (wordsText (withoutEmpty ps)), length-append p (wordsText ps))
+
+words-short : (l : List ℕ) → length (wordsText (wordsOf l)) ≤ length l + 1
+unfolding wordsOf
+words-short l = omega (arith, without-empty-short (piecesOf l), pieces-long l)
+
+-- ---- words from tables
 
 number-short : (n : ℕ) → length (numberText n) ≤ 8
 unfolding numberText
@@ -182,6 +207,7 @@ expected-short Ex.Slash = omega arith
 expected-short Ex.Fewer = omega arith
 expected-short Ex.End = omega arith
 expected-short Ex.Shorter = omega arith
+expected-short Ex.Answer = omega arith
 
 -- ---- lines
 
@@ -225,3 +251,14 @@ unknown-short line e = simp length-append (omega (arith, decimal-short line, exp
 pub totals-short : (calls refused unknown : ℕ) → length (totalsText calls refused unknown) ≤ 1024
 unfolding totalsText
 totals-short calls refused unknown = simp length-append (omega (arith, decimal-short calls, decimal-short refused, decimal-short unknown))
+
+pub unmet-short : (line : ℕ) (text : List ℕ) → length text ≤ 1024 → length (unmetLine line text) ≤ 2048
+unfolding unmetLine
+unmet-short line text h = simp length-append (omega (arith, h, decimal-short line, words-short text))
+
+pub judged-short : (met unmet : ℕ) → length (judgedText met unmet) ≤ 1024
+unfolding judgedText
+judged-short met unmet =
+    short-cond 1024 (eqb met 0 && eqb unmet 0) []
+    (decimalText met ++ ascii " as expected, " ++ decimalText unmet ++ ascii " not" ++ newline)
+    (omega arith) (simp length-append (omega (arith, decimal-short met, decimal-short unmet)))

@@ -87,9 +87,10 @@ table-put other rows {text} {a} {b} {n} {i} {j} e p =
 abbrev pub expectedTexts : List (List ℕ)
 expectedTexts =
     expectedText Ex.Call ∷ expectedText Ex.Byte ∷ expectedText Ex.Small ∷ expectedText Ex.Signed ∷ expectedText Ex.Cause
-    ∷ expectedText Ex.Data ∷ expectedText Ex.Slash ∷ expectedText Ex.Fewer ∷ expectedText Ex.End ∷ expectedText Ex.Shorter ∷ []
+    ∷ expectedText Ex.Data ∷ expectedText Ex.Slash ∷ expectedText Ex.Fewer ∷ expectedText Ex.End ∷ expectedText Ex.Shorter
+    ∷ expectedText Ex.Answer ∷ []
 
-expected-at : (e : Expected) → (expectedPlace e < 10) × (getD expectedTexts (expectedPlace e) [] ≡ expectedText e)
+expected-at : (e : Expected) → (expectedPlace e < 11) × (getD expectedTexts (expectedPlace e) [] ≡ expectedText e)
 expected-at Ex.Call = (omega arith, refl)
 expected-at Ex.Byte = (omega arith, refl)
 expected-at Ex.Small = (omega arith, refl)
@@ -100,8 +101,9 @@ expected-at Ex.Slash = (omega arith, refl)
 expected-at Ex.Fewer = (omega arith, refl)
 expected-at Ex.End = (omega arith, refl)
 expected-at Ex.Shorter = (omega arith, refl)
+expected-at Ex.Answer = (omega arith, refl)
 
-pub expected-put : (e : Expected) (r text : List ℕ) (n : ℕ) {a b : List ℕ} {i j : ℕ} → entriesOf 10 text ≡ expectedTexts
+pub expected-put : (e : Expected) (r text : List ℕ) (n : ℕ) {a b : List ℕ} {i j : ℕ} → entriesOf 11 text ≡ expectedTexts
     → n ≡ expectedPlace e → r ≡ entryOf n text → Put r a i b j → Put (expectedText e) a i b j
 expected-put e r text n {a} {b} {i} {j} holds place is p =
     let at-place = entry-is expectedTexts text (expectedPlace e) (expected-at e .0) holds in

@@ -11,9 +11,11 @@ use lib.Dec.{ltb, leb}
 use lib.Pow.{pow-add}
 use lib.ListN.{length, take, getD}
 use lib.Seq.{take-suc, take-all}
-use borrow.Author.Tests.{lt-ltb, le-ltb, leb-true, leb-false}
+use borrow.Author.Tests.{eqb-true, eqb-false, lt-ltb, le-ltb, leb-true, leb-false}
 use Rattle.io.specs.Digits.{digits, Fewest}
-use Rattle.answers.specs.Texts.{Put, digitsOf, placesOf, decimalText, eachText, placeText, placesFrom, placesText}
+use Rattle.notation.specs.Words.{firstWord, afterWord, wordsOf, isBlank}
+use Rattle.notation.proofs.SplitLaws.{words-more, words-none}
+use Rattle.answers.specs.Texts.{Put, digitsOf, placesOf, decimalText, eachText, wordsText, placeText, placesFrom, placesText}
 use Rattle.answers.proofs.PutLaws.{put-none, put-then}
 
 -- ---- decimal digits
@@ -85,6 +87,23 @@ module _ {A : Type 0} (f : A → List ℕ) where
 pub each-byte : (xs : List ℕ) → eachText (λ (b : ℕ). b ∷ []) xs ≡ xs
 each-byte [] = refl
 each-byte (x ∷ xs) = ap (λ (l : List ℕ). x ∷ l) (each-byte xs)
+
+-- ---- words
+
+-- no word is left
+pub words-put-none : (l out : List ℕ) (at : ℕ) → isBlank l ≡ true → Put (wordsText (wordsOf l)) out at out at
+words-put-none l out at p =
+    subst (λ (ws : List (List ℕ)). Put (wordsText ws) out at out at) (sym (words-none l (eqb-true (length (firstWord l)) 0 p)))
+    (put-none out at)
+
+-- the first word and those after it
+pub words-put-more : {a b c d : List ℕ} {i j k m : ℕ} (l w rest : List ℕ) → isBlank l ≡ false → w ≡ firstWord l → rest ≡ afterWord l
+    → Put (32 ∷ []) a i b j → Put w b j c k → Put (wordsText (wordsOf rest)) c k d m → Put (wordsText (wordsOf l)) a i d m
+words-put-more {a} {b} {c} {d} {i} {j} {k} {m} l w rest p f g u v t =
+    subst (λ (ws : List (List ℕ)). Put (wordsText ws) a i d m)
+    (ap (λ (x : List ℕ). x ∷ wordsOf rest) f ∙ ap (λ (x : List ℕ). firstWord l ∷ wordsOf x) g
+    ∙ sym (words-more l (eqb-false (length (firstWord l)) 0 p)))
+    (put-then (put-then u v) t)
 
 -- ---- places
 

@@ -1,6 +1,6 @@
 -- Answer lines, to the letter: the call's number, what it answers, and in parentheses words that help a person.
 -- Assumes nothing.
-use mathlib.Core.Bool.{cond}
+use mathlib.Core.Bool.{cond, _&&_}
 use mathlib.Core.List.{List, [], _∷_, _++_}
 use Prim.Native.Nat.{ℕ, _+_, _-_, _*_, _/_, _%_}
 use lib.Dec.{ltb, eqb}
@@ -11,8 +11,9 @@ use Rattle.profile.specs.Entries.{homeOf, atWindow}
 use Rattle.notation.specs.declared.Expected.{Expected}
 use Rattle.notation.specs.declared.Expected.the-variants as Ex
 use Rattle.notation.specs.Ascii.{ascii}
+use Rattle.notation.specs.Words.{wordsOf}
 use Rattle.answers.specs.Tables.{Row, _is_, textOf}
-use Rattle.answers.specs.Texts.{longHexText, decimalText, bytesText, numbersText, placesText}
+use Rattle.answers.specs.Texts.{longHexText, decimalText, bytesText, numbersText, wordsText, placesText}
 
 abbrev pub newline : List ℕ
 newline = 10 ∷ []
@@ -118,6 +119,7 @@ expectedText Ex.Slash = ascii "/ and numbers"
 expectedText Ex.Fewer = ascii "at most 64 in a buffer"
 expectedText Ex.End = ascii "the end of the line"
 expectedText Ex.Shorter = ascii "at most 1,024 bytes"
+expectedText Ex.Answer = ascii "an answer before this line"
 
 -- the order in which the code keeps these texts
 abbrev pub expectedPlace : Expected → ℕ
@@ -131,13 +133,24 @@ expectedPlace Ex.Slash = 6
 expectedPlace Ex.Fewer = 7
 expectedPlace Ex.End = 8
 expectedPlace Ex.Shorter = 9
+expectedPlace Ex.Answer = 10
 
 -- "A line that is no call of this table gets `? line N: ` and what was expected"
 unfoldable pub unknownLine : ℕ → Expected → List ℕ
 unknownLine line e = ascii "? line " ++ decimalText line ++ ascii ": " ++ ascii "expected " ++ expectedText e ++ newline
+
+-- an expected answer that did not come: "`! line N: expected 0 = 0F` (the expected words, single spaces)"
+unfoldable pub unmetLine : ℕ → List ℕ → List ℕ
+unmetLine line text = ascii "! line " ++ decimalText line ++ ascii ": expected" ++ wordsText (wordsOf text) ++ newline
 
 -- "an empty line and `C calls, R refused, Q not understood`"
 unfoldable pub totalsText : ℕ → ℕ → ℕ → List ℕ
 totalsText calls refused unknown =
     newline ++ decimalText calls ++ ascii " calls, " ++ decimalText refused ++ ascii " refused, "
     ++ decimalText unknown ++ ascii " not understood" ++ newline
+
+-- "A list with such lines gets one more line after the totals, `E as expected, D not`"
+unfoldable pub judgedText : ℕ → ℕ → List ℕ
+judgedText met unmet =
+    cond (eqb met 0 && eqb unmet 0) []
+    (decimalText met ++ ascii " as expected, " ++ decimalText unmet ++ ascii " not" ++ newline)

@@ -61,6 +61,10 @@ bytesText bs = eachText (λ (b : ℕ). 32 ∷ hexText b) bs
 abbrev pub numbersText : List ℤ → List ℕ
 numbersText zs = eachText (λ (z : ℤ). 32 ∷ bitsText (ofZ w16 z)) zs
 
+-- a space and the word for each
+abbrev pub wordsText : List (List ℕ) → List ℕ
+wordsText ws = eachText (λ (w : List ℕ). 32 ∷ w) ws
+
 -- a space and n where the lowest bit is 1
 unfoldable pub placeText : ℕ → ℕ → List ℕ
 placeText n bits = cond (eqb (bits % 2) 1) (32 ∷ decimalText n) []

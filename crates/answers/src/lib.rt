@@ -6,6 +6,7 @@ use crate::text::put;
 use crate::text::put_all;
 use crate::text::put_bytes;
 use crate::text::put_decimal;
+use crate::text::put_each_word;
 use crate::text::put_long_hex;
 use crate::text::put_numbers;
 use crate::text::put_places;
@@ -13,7 +14,7 @@ ghost use Rattle.profile.specs.Entries.{homeOf};
 ghost use Rattle.answers.specs.Texts.{Put};
 ghost use Rattle.answers.specs.Answers.{numberText, endText, linesText, entryText};
 ghost use Rattle.answers.specs.Answers.{plainLine, writeLine, readLine, sampleLine, driveLine, unknownLine};
-ghost use Rattle.answers.specs.Answers.{totalsText};
+ghost use Rattle.answers.specs.Answers.{unmetLine, totalsText, judgedText};
 use notation::Expected;
 use notation::items::first_bytes;
 use profile::Entry;
@@ -157,7 +158,18 @@ pub fn put_unknown(out: &mut [u8], at: usize, line: u64, expected: Expected) -> 
     put(out, last, b'\n')
 }
 
-// The last line: how many calls, how many of them refused, and how many lines that are no call.
+// An expected answer that did not come.
+pub fn put_unmet(out: &mut [u8], at: usize, line: u64, text: &[u8]) -> usize
+    ensures { λ r. ⌜ Put (unmetLine line (now (text .entry))) (now (out .entry)) at (now (out .exit)) r ⌝ }
+{
+    let first = put_all(out, at, b"! line ");
+    let second = put_decimal(out, first, line);
+    let third = put_all(out, second, b": expected");
+    let last = put_each_word(out, third, text);
+    put(out, last, b'\n')
+}
+
+// The totals: how many calls, how many of them refused, and how many lines that are no call.
 pub fn put_totals(out: &mut [u8], at: usize, calls: u64, refused: u64, unknown: u64) -> usize
     ensures { λ r. ⌜ Put (totalsText calls refused unknown) (now (out .entry)) at (now (out .exit)) r ⌝ }
 {
@@ -168,4 +180,17 @@ pub fn put_totals(out: &mut [u8], at: usize, calls: u64, refused: u64, unknown: 
     let fifth = put_all(out, fourth, b" refused, ");
     let sixth = put_decimal(out, fifth, unknown);
     put_all(out, sixth, b" not understood\n")
+}
+
+// How many expected answers came and how many did not, where any was expected.
+pub fn put_judged(out: &mut [u8], at: usize, met: u64, unmet: u64) -> usize
+    ensures { λ r. ⌜ Put (judgedText met unmet) (now (out .entry)) at (now (out .exit)) r ⌝ }
+{
+    if (met == 0) & (unmet == 0) {
+        return at;
+    }
+    let first = put_decimal(out, at, met);
+    let second = put_all(out, first, b" as expected, ");
+    let third = put_decimal(out, second, unmet);
+    put_all(out, third, b" not\n")
 }

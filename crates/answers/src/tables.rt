@@ -66,7 +66,7 @@ pub fn put_expected(out: &mut [u8], at: usize, expected: Expected) -> usize
     let words = b"a call or an index of 1 to 4 hexadecimal digits;1 or 2 hexadecimal digits;\
         a number from 0 to 255;a number from -32768 to 32767;internal or communication;\
         = between spaces, or the end of the line;/ and numbers;at most 64 in a buffer;\
-        the end of the line;at most 1,024 bytes";
+        the end of the line;at most 1,024 bytes;an answer before this line";
     let n = expected_place(expected);
     put_all(out, at, entry(words, n))
 }
@@ -86,6 +86,7 @@ fn expected_place(expected: Expected) -> usize
         Expected::Fewer => 7,
         Expected::End => 8,
         Expected::Shorter => 9,
+        Expected::Answer => 10,
     }
 }
 

@@ -1,12 +1,16 @@
 // Bytes put into a lent buffer from a position on; each function answers the position after them. What does not fit is left out.
 use channels::numbers::bits16;
+use notation::words::after_word;
+use notation::words::first_word;
+use notation::words::is_blank;
 ghost use mathlib.Core.Path.{_≡_};
 ghost use mathlib.Core.List.{[], _∷_};
 ghost use Prim.Native.Nat.{_<_};
 ghost use mir.Syntax.{w16};
 ghost use mir.Val.{ofZ};
 ghost use Rattle.answers.specs.Texts.{Put, glyphOf, hexText, longHexText, decimalText, bitsText, bytesText, numbersText};
-ghost use Rattle.answers.specs.Texts.{placeText, placesText};
+ghost use Rattle.notation.specs.Words.{wordsOf};
+ghost use Rattle.answers.specs.Texts.{wordsText, placeText, placesText};
 
 pub fn put(out: &mut [u8], at: usize, byte: u8) -> usize
     ensures { λ r. ⌜ Put (byte ∷ []) (now (out .entry)) at (now (out .exit)) r ⌝ }
@@ -106,6 +110,18 @@ pub fn put_numbers(out: &mut [u8], at: usize, numbers: &[i16]) -> usize
         i += 1;
     }
     next
+}
+
+// A space and the word for each word of a text.
+pub fn put_each_word(out: &mut [u8], at: usize, text: &[u8]) -> usize
+    ensures { λ r. ⌜ Put (wordsText (wordsOf (now (text .entry)))) (now (out .entry)) at (now (out .exit)) r ⌝ }
+{
+    if is_blank(text) {
+        return at;
+    }
+    let next = put(out, at, b' ');
+    let last = put_all(out, next, first_word(text));
+    put_each_word(out, last, after_word(text))
 }
 
 // A space and n where the lowest bit is 1.

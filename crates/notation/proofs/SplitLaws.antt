@@ -3,10 +3,10 @@
 use mathlib.Core.Path.{_≡_, refl, sym, ap, subst, _∙_}
 use mathlib.Core.Bool.{Bool, true, false, cond, _&&_}
 use mathlib.Core.List.{List, [], _∷_}
-use Prim.Native.Nat.{ℕ, suc}
+use Prim.Native.Nat.{ℕ, suc, _+_, _≤_, _<_}
 use native.Mathlib.Omega.{arith}
 use lib.Dec.{eqb}
-use lib.ListN.{length, take, drop}
+use lib.ListN.{length, take, drop, length-drop}
 use lib.Seq.{drop-drop, length-take-le}
 use borrow.Author.Tests.{eqb-true, eqb-false, eq-eqb}
 use Rattle.notation.specs.Words.{run, spaces, wordEnd, firstWord, afterWord, withByte, piecesOf, withoutEmpty, wordsOf, firstOf}
@@ -117,6 +117,14 @@ others-of l r p = at (eqb (length (firstWord l)) 0) refl
     at true e = ap wordsOf p ∙ none-behind l (eqb-true (length (firstWord l)) 0 e) ∙ sym
         (ap othersOf (words-none l (eqb-true (length (firstWord l)) 0 e)))
     at false e = ap wordsOf p ∙ sym (ap othersOf (words-more l (eqb-false (length (firstWord l)) 0 e)))
+
+-- what follows a word is shorter than the line
+pub after-shorter : (l : List ℕ) → (length (firstWord l) ≡ 0 → ⊥) → length (afterWord l) < length l
+unfolding afterWord wordEnd
+after-shorter l h =
+    let n = run false 32 (drop (spaces l) l) in
+    let some : 1 ≤ n = omega (arith, first-long l, h) in
+    omega (arith, length-drop (spaces l + n) l, length-drop (spaces l) l, run-within false 32 (drop (spaces l) l))
 
 unlike : _≡_ {A = Bool} false true → ⊥
 unlike e = let z : _≡_ {A = ℕ} 0 1 = ap (λ (t : Bool). cond t 1 0) e in absurd (omega (arith, z))

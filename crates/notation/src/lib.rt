@@ -9,6 +9,8 @@ pub mod numbers;
 pub mod items;
 // A line as a call.
 pub mod calls;
+// A line as an expected answer.
+pub mod expectations;
 
 // What a line says. Its data stand in the buffers lent to the reader.
 pub enum Call {
@@ -51,4 +53,6 @@ pub enum Expected {
     End,
     // At most 1,024 bytes.
     Shorter,
+    // An answer line before this line.
+    Answer,
 }
