@@ -24,8 +24,9 @@ use Rattle.profile.proofs.BitLaws.{same-bits}
 use Rattle.lines.proofs.ColumnLaws.{end, _▸_, all-at}
 use Rattle.lines.proofs.DeterminedLaws.{same-words}
 use Rattle.channels.specs.View.{sourcesOf}
+use Rattle.store.specs.View.{stateNumber, nodeAt, partsOf}
 use Rattle.device.specs.declared.Device.{Device}
-use Rattle.device.specs.View.{stateNumber, nodeAt, partsOf, machinesOf, Normal}
+use Rattle.device.specs.View.{storeOf, machinesOf, Normal}
 use Rattle.device.specs.Promises.{Allowed, Ensured}
 
 -- two columns, one after the other
@@ -58,13 +59,13 @@ same-high : (x y u v : ℕ) → Fits w8 x → Fits w8 u → x + 256 * y ≡ u + 
 same-high x y u v f g e = omega (arith, f .fits, g .fits, e)
 
 module _ (a b : Device) (p : Allowed a) (q : Allowed b) (u : Normal a) (v : Normal b) (s : Same (machinesOf a) (machinesOf b)) where
-  node : partsOf a .node ≡ partsOf b .node
+  node : partsOf (storeOf a) .node ≡ partsOf (storeOf b) .node
   node = ap (λ (m : Machine nodeAlone). m .node) (s .at nodeAlone 0 (omega arith))
 
-  input : (i : ℕ) → i < 16 → partsOf a .inputs i ≡ partsOf b .inputs i
+  input : (i : ℕ) → i < 16 → partsOf (storeOf a) .inputs i ≡ partsOf (storeOf b) .inputs i
   input i h = ap (λ (m : Machine analogueInput). m .own) (s .at analogueInput i h)
 
-  output : (i : ℕ) → i < 8 → partsOf a .outputs i ≡ partsOf b .outputs i
+  output : (i : ℕ) → i < 8 → partsOf (storeOf a) .outputs i ≡ partsOf (storeOf b) .outputs i
   output i h = ap (λ (m : Machine analogueOutput). m .own) (s .at analogueOutput i h)
 
   state : getD (a .octets) 1 0 ≡ getD (b .octets) 1 0
@@ -138,14 +139,26 @@ module _ (a b : Device) (p : Allowed a) (q : Allowed b) (u : Normal a) (v : Norm
 
 -- ---- corollaries
 
+-- a device is its arrays
+same-device : (a b : Device) → storeOf a ≡ storeOf b → a ≡ b
+same-device a b e =
+    λ t. record {
+      octets = e t .octets;
+      flags = e t .flags;
+      words = e t .words;
+      limits = e t .limits;
+      deltas = e t .deltas;
+      values = e t .values;
+    }
+
 -- a refused call leaves the very device that it got
 pub refused-very-device : (d r : Device) (c : Call) (a : Reply) → Ensured d c a r → (a .number ≡ 0 → ⊥) → r ≡ d
-refused-very-device d r c a o ne = o .untouched ne
+refused-very-device d r c a o ne = same-device r d (o .untouched ne)
 
 -- so does a command for another node
 pub passed-by-very-device : (d r : Device) (code to : ℕ) (a : Reply) → Ensured d (command code to) a r
     → addressed to (nodeAt (d .octets) (d .flags)) ≡ false → r ≡ d
-passed-by-very-device d r code to a o e = o .passed-by (ap not e)
+passed-by-very-device d r code to a o e = same-device r d (o .passed-by (ap not e))
 
 -- the device after a call and the whole reply are functions of the device before and the call
 pub one-outcome : (d r s : Device) (c : Call) (a b : Reply) → Normal d → Allowed r → Allowed s → Ensured d c a r → Ensured d c b s →

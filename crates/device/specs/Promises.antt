@@ -1,133 +1,28 @@
--- What create promises, and what the device's own functions do between the calls.
+-- What the methods promise: what the calls in place promise of the device's arrays.
 -- Assumes nothing.
-use mathlib.Core.Path.{_≡_}
-use mathlib.Core.Bool.{Bool, true, false, not, cond, _||_, _&&_}
-use mathlib.Core.List.{List}
-use Prim.Native.Nat.{ℕ, _≤_, _<_, _^_}
+use Prim.Native.Nat.{ℕ}
 use lib.ListN.{getD}
-use lib.IntN.{ℤ}
 use mir.Syntax.{w8, w64}
 use mir.Val.{Fits}
-use Rattle.profile.specs.declared.Node.{Node}
-use Rattle.profile.specs.declared.Home.{Home}
-use Rattle.profile.specs.declared.Home.the-variants.{Constant, Window, InputChannel, OutputChannel, Sources}
-use Rattle.profile.specs.declared.Home.the-variants as home
-use Rattle.profile.specs.AnalogueInput.{inputSize}
-use Rattle.lines.specs.declared.Row.{Row}
-use Rattle.lines.specs.View.{rowAt}
-use Rattle.lines.specs.Promises.{Covers, Moved}
-use Rattle.channels.specs.View.{outputAt}
-use Rattle.channels.specs.Outputs as channel
-use Rattle.channels.specs.Promises.{SourcesStored, OutputsMoved}
-use Rattle.profile.specs.Nodes.{fault, addressed}
-use Rattle.profile.specs.Refusals.{createRefusal, createdNumber}
-use Rattle.profile.specs.Machines.{entryNames, writeOwn, clearOwn, moveOwn}
-use Rattle.profile.specs.NodeAlone.{writesSetting, writeNode}
-use Rattle.profile.specs.Entries.{readsSources}
-use Rattle.profile.specs.Replies.{Machines, freshMachines}
-use Rattle.profile.specs.Outcome.{Same, Outcome}
-use Rattle.profile.specs.Calls.{Call, read, write, sample, command, raise, clear, drive, Reply}
+use Rattle.profile.specs.Calls.{Call, Reply}
+use Rattle.store.specs.View.{Sized}
+use Rattle.store.specs.Promises.{FreshAs}
+use Rattle.store.specs.Promises as store
 use Rattle.device.specs.declared.Device.{Device}
 use Rattle.device.specs.declared.Created.{Created}
-use Rattle.device.specs.View.{nodeAt, Parts, ownOf, machines, machinesOf, held, Sized, Normal}
+use Rattle.device.specs.View.{storeOf}
 
 -- the promise of create: the number, and a fresh device with the node number, or with 127
-pub record FreshAs (number : ℕ) (r : ℕ) (left : Device) : Type 0 where
-  pub numbered : r ≡ createRefusal number
-  pub machines : Same (machinesOf left) (freshMachines (createdNumber number))
-  pub normal : Normal left
-
 abbrev pub CreatedAs : ℕ → Created → Type 0
-CreatedAs number r = FreshAs number (r .number) (r .device)
-
--- a command for another node
-abbrev pub elsewhere : Node → Call → Bool
-elsewhere n (read index sub) = false
-elsewhere n (write index sub bytes) = false
-elsewhere n (sample digital analogue events) = false
-elsewhere n (command code to) = not (addressed to n)
-elsewhere n (raise cause) = false
-elsewhere n (clear cause) = false
-elsewhere n (drive lines channels) = false
+CreatedAs number r = FreshAs number (r .number) (storeOf (r .device))
 
 -- the promise of each of the seven other calls: the complete outcome for the machines; a refused call and a command for another node
 -- leave every array; a device whose state's byte is normal stays so
-pub record Ensured (before : Device) (c : Call) (r : Reply) (left : Device) : Type 0 where
-  pub outcome : Outcome (machinesOf before) c r (machinesOf left)
-  pub untouched : (r .number ≡ 0 → ⊥) → left ≡ before
-  pub passed-by : elsewhere (nodeAt (before .octets) (before .flags)) c ≡ true → left ≡ before
-  pub normal : Normal before → Normal left
-
--- the same of a call that is not lent the limits and the deltas: whatever they are, they stay
-pub record EnsuredBeside (octets : List ℕ) (flags : List Bool) (words : List ℕ) (values : List ℤ) (c : Call) (r : Reply)
-    (octets′ : List ℕ) (flags′ : List Bool) (words′ : List ℕ) (values′ : List ℤ) : Type 0 where
-  pub whole : (limits : List ℤ) (deltas : List ℕ)
-      → Ensured (held octets flags words limits deltas values) c r (held octets′ flags′ words′ limits deltas values′)
-
--- the same of drive, which is lent the words and the values alone, and only to be read
-pub record EnsuredOf (words : List ℕ) (values : List ℤ) (c : Call) (r : Reply) : Type 0 where
-  pub whole : (octets : List ℕ) (flags : List Bool) (limits : List ℤ) (deltas : List ℕ)
-      → Ensured (held octets flags words limits deltas values) c r (held octets flags words limits deltas values)
-
--- every array is fresh, with a node number
-pub record FreshLeft (number : ℕ) (left : Device) : Type 0 where
-  pub machines : Same (machinesOf left) (freshMachines number)
-  pub normal : Normal left
-
--- a part of a call brought the machines to ms
-pub record Stepped (before left : Device) (ms : Machines) : Type 0 where
-  pub machines : Same (machinesOf left) ms
-  pub normal : Normal before → Normal left
+abbrev pub Ensured : Device → Call → Reply → Device → Type 0
+Ensured before c r left = store.Ensured (storeOf before) c r (storeOf left)
 
 -- what the struct's type says of a device
 pub record Allowed (d : Device) : Type 0 where
-  pub sized : Sized d
+  pub sized : Sized (storeOf d)
   pub each-octet : (n : ℕ) → Fits w8 (getD (d .octets) n 0)
   pub each-word : (n : ℕ) → Fits w64 (getD (d .words) n 0)
-
--- every machine of the device has the node n, and its outputs have moved as fault began, lasted or ended
-abbrev pub moved : Node → Parts → Machines
-moved n d k i = record { node = n; own = moveOwn (fault (d .node)) (fault n) k (ownOf d k i) }
-
--- the number v was written to an entry
-abbrev pub wrote : Home → ℕ → Parts → Machines
-wrote e v d k i =
-    cond (writesSetting e || entryNames e k i)
-    (record { node = writeNode e v (d .node); own = writeOwn e v k i (d .node) (ownOf d k i) })
-    (machines d k i)
-
--- an entry was read
-abbrev pub hasRead : Home → Parts → Machines
-hasRead e d k i = record { node = d .node; own = cond (readsSources e) (clearOwn k (ownOf d k i)) (ownOf d k i) }
-
--- an entry that the device has
-abbrev pub Readable : Home → Type 0
-Readable (Constant v) = Unit {0}
-Readable (Window row w s) = Covers row w s × (row < 11)
-Readable (InputChannel index n) = n < 16
-Readable (OutputChannel index n) = n < 8
-Readable Sources = Unit {0}
-Readable (home.Device index) = Unit {0}
-
--- and a value that the refusal table lets pass
-abbrev pub Writable : Home → ℕ → Type 0
-Writable (Constant c) v = ⊥
-Writable (Window row w s) v = Covers row w s × (1 ≤ row) × (row < 11) × (v < 2 ^ w)
-Writable (InputChannel index n) v = (n < 16) × (v < 256 ^ inputSize index)
-Writable (OutputChannel index n) v = (n < 8) × channel.Writable index v
-Writable Sources v = ⊥
-Writable (home.Device index) v = v < 256
-
--- the edges that are reported as events, where events are on
-pub record Reported (on : Bool) (edges r : Row) : Type 0 where
-  pub at : (i : ℕ) → rowAt r i ≡ on && rowAt edges i
-
--- the outputs have moved as fault began, lasted or ended
-pub record Followed (before after : Bool) (flags : List Bool) (words words′ : List ℕ) (values values′ : List ℤ) : Type 0 where
-  pub lines : Moved before after words words′
-  pub channels : OutputsMoved before after (outputAt flags values) (outputAt flags values′) values values′
-
--- an accepted read of 6422:1 clears the source bits, any other read leaves them
-pub record SourcesRead (e : Home) (octets octets′ : List ℕ) : Type 0 where
-  pub cleared : readsSources e ≡ true → SourcesStored 0 octets octets′
-  pub kept : readsSources e ≡ false → octets′ ≡ octets

@@ -5,15 +5,13 @@ use crate::Created;
 use crate::Device;
 use crate::ReadAnswer;
 use crate::SampleAnswer;
-use crate::network;
-use crate::objects;
-use crate::process;
-use crate::store::node_at;
 use profile::Cause;
 use profile::Node;
+use store::node_at;
 ghost use mathlib.Core.Path.{_≡_};
 ghost use Rattle.profile.specs.Calls.{Call};
-ghost use Rattle.device.specs.View.{nodeAt, readAnswer, sampleAnswer, plainAnswer, driveAnswer};
+ghost use Rattle.store.specs.View.{nodeAt};
+ghost use Rattle.device.specs.View.{readAnswer, sampleAnswer, plainAnswer, driveAnswer};
 ghost use Rattle.device.specs.Promises.{CreatedAs, Ensured};
 
 impl Device {

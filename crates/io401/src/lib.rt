@@ -2,11 +2,7 @@
 // own and promises what it promises. It takes a pointer to each array that it needs; the header's io401_X(io401_device *, ..) passes
 // io401_X_arrays those of one device.
 
+// The calls.
+pub mod calls;
 // Between C and the device's types.
 mod causes;
-// create, command, raise and clear.
-pub mod network;
-// read and write.
-pub mod objects;
-// sample and drive.
-pub mod process;

@@ -1,0 +1,192 @@
+// The eight calls in place, for C.
+use crate::causes::cause_of;
+use network::clear;
+use network::command;
+use network::create;
+use network::raise;
+use objects::ReadNumber;
+use objects::read;
+use objects::write;
+use process::SampleNumber;
+use process::drive;
+use process::sample;
+ghost use Rattle.profile.specs.Calls.{Call};
+ghost use Rattle.profile.specs.Replies.{plain};
+ghost use Rattle.store.specs.View.{held};
+ghost use Rattle.store.specs.Promises.{FreshAs, Ensured, EnsuredBeside, EnsuredOf};
+ghost use Rattle.objects.specs.View.{readNumber};
+ghost use Rattle.process.specs.View.{sampleNumber, driveNumber};
+ghost use Rattle.io401.specs.Causes.{causeOf};
+
+// A refused node number gives a device with node number 127.
+#[no_mangle]
+pub extern "C" fn io401_create_arrays(
+    octets: &mut [u8; 21],
+    flags: &mut [bool; 12],
+    words: &mut [u64; 28],
+    limits: &mut [i32; 32],
+    deltas: &mut [u32; 48],
+    values: &mut [i16; 56],
+    number: u8,
+) -> u32
+    ensures { λ r. ⌜ FreshAs number r
+        (held (now (octets .exit)) (now (flags .exit)) (now (words .exit)) (now (limits .exit)) (now (deltas .exit))
+        (now (values .exit))) ⌝ }
+{
+    create(octets, flags, words, limits, deltas, values, number)
+}
+
+#[no_mangle]
+pub extern "C" fn io401_read_arrays(
+    octets: &mut [u8; 21],
+    flags: &[bool; 12],
+    words: &[u64; 28],
+    limits: &[i32; 32],
+    deltas: &[u32; 48],
+    values: &[i16; 56],
+    index: u16,
+    sub: u8,
+) -> ReadNumber
+    ensures { λ r. ⌜ Ensured
+        (held (now (octets .entry)) (now (flags .entry)) (now (words .entry)) (now (limits .entry)) (now (deltas .entry))
+        (now (values .entry)))
+        (Call.read index sub) (readNumber r)
+        (held (now (octets .exit)) (now (flags .entry)) (now (words .entry)) (now (limits .entry)) (now (deltas .entry))
+        (now (values .entry))) ⌝ }
+{
+    read(octets, flags, words, limits, deltas, values, index, sub)
+}
+
+#[no_mangle]
+pub extern "C" fn io401_write_arrays(
+    octets: &mut [u8; 21],
+    flags: &mut [bool; 12],
+    words: &mut [u64; 28],
+    limits: &mut [i32; 32],
+    deltas: &mut [u32; 48],
+    values: &mut [i16; 56],
+    index: u16,
+    sub: u8,
+    bytes: &[u8],
+) -> u32
+    ensures { λ r. ⌜ Ensured
+        (held (now (octets .entry)) (now (flags .entry)) (now (words .entry)) (now (limits .entry)) (now (deltas .entry))
+        (now (values .entry)))
+        (Call.write index sub (now (bytes .entry))) (plain r)
+        (held (now (octets .exit)) (now (flags .exit)) (now (words .exit)) (now (limits .exit)) (now (deltas .exit))
+        (now (values .exit))) ⌝ }
+{
+    write(
+        octets,
+        flags,
+        words,
+        limits,
+        deltas,
+        values,
+        index,
+        sub,
+        bytes,
+    )
+}
+
+#[no_mangle]
+pub extern "C" fn io401_sample_arrays(
+    octets: &mut [u8; 21],
+    flags: &[bool; 12],
+    words: &mut [u64; 28],
+    limits: &[i32; 32],
+    deltas: &[u32; 48],
+    values: &mut [i16; 56],
+    digital: &[u8],
+    analogue: &[i16],
+    events: &mut [u8],
+) -> SampleNumber
+    ensures { λ r. ⌜ Ensured
+        (held (now (octets .entry)) (now (flags .entry)) (now (words .entry)) (now (limits .entry)) (now (deltas .entry))
+        (now (values .entry)))
+        (Call.sample (now (digital .entry)) (now (analogue .entry)) (now (events .entry))) (sampleNumber r (now (events .exit)))
+        (held (now (octets .exit)) (now (flags .entry)) (now (words .exit)) (now (limits .entry)) (now (deltas .entry))
+        (now (values .exit))) ⌝ }
+{
+    sample(
+        octets,
+        flags,
+        words,
+        limits,
+        deltas,
+        values,
+        digital,
+        analogue,
+        events,
+    )
+}
+
+#[no_mangle]
+pub extern "C" fn io401_command_arrays(
+    octets: &mut [u8; 21],
+    flags: &mut [bool; 12],
+    words: &mut [u64; 28],
+    limits: &mut [i32; 32],
+    deltas: &mut [u32; 48],
+    values: &mut [i16; 56],
+    code: u8,
+    node: u8,
+) -> u32
+    ensures { λ r. ⌜ Ensured
+        (held (now (octets .entry)) (now (flags .entry)) (now (words .entry)) (now (limits .entry)) (now (deltas .entry))
+        (now (values .entry)))
+        (Call.command code node) (plain r)
+        (held (now (octets .exit)) (now (flags .exit)) (now (words .exit)) (now (limits .exit)) (now (deltas .exit))
+        (now (values .exit))) ⌝ }
+{
+    command(octets, flags, words, limits, deltas, values, code, node)
+}
+
+// The cause is communication loss where loss is true, else internal failure.
+
+#[no_mangle]
+pub extern "C" fn io401_raise_arrays(
+    octets: &mut [u8; 21],
+    flags: &mut [bool; 12],
+    words: &mut [u64; 28],
+    values: &mut [i16; 56],
+    loss: bool,
+) -> u32
+    ensures { λ r. ⌜ EnsuredBeside (now (octets .entry)) (now (flags .entry)) (now (words .entry)) (now (values .entry))
+        (Call.raise (causeOf loss)) (plain r)
+        (now (octets .exit)) (now (flags .exit)) (now (words .exit)) (now (values .exit)) ⌝ }
+{
+    let cause = cause_of(loss);
+    raise(octets, flags, words, values, cause)
+}
+
+// The cause is communication loss where loss is true, else internal failure.
+
+#[no_mangle]
+pub extern "C" fn io401_clear_arrays(
+    octets: &mut [u8; 21],
+    flags: &mut [bool; 12],
+    words: &mut [u64; 28],
+    values: &mut [i16; 56],
+    loss: bool,
+) -> u32
+    ensures { λ r. ⌜ EnsuredBeside (now (octets .entry)) (now (flags .entry)) (now (words .entry)) (now (values .entry))
+        (Call.clear (causeOf loss)) (plain r)
+        (now (octets .exit)) (now (flags .exit)) (now (words .exit)) (now (values .exit)) ⌝ }
+{
+    let cause = cause_of(loss);
+    clear(octets, flags, words, values, cause)
+}
+
+#[no_mangle]
+pub extern "C" fn io401_drive_arrays(
+    words: &[u64; 28],
+    values: &[i16; 56],
+    lines: &mut [u8],
+    channels: &mut [i16],
+) -> u32
+    ensures { λ r. ⌜ EnsuredOf (now (words .entry)) (now (values .entry))
+        (Call.drive (now (lines .entry)) (now (channels .entry))) (driveNumber r (now (lines .exit)) (now (channels .exit))) ⌝ }
+{
+    drive(words, values, lines, channels)
+}

@@ -1,0 +1,135 @@
+// create, command, raise and clear, in place.
+use channels::outputs::move_all;
+use lines::machines::move_outputs;
+use profile::Cause;
+use profile::nodes::RESET_NODE;
+use profile::refusals::command_refusal;
+use profile::refusals::create_refusal;
+use store::lend;
+use store::lend_settings;
+use store::node_at;
+use store::set_fresh;
+use store::set_node;
+ghost use mathlib.Core.Path.{_≡_};
+ghost use lib.ListN.{length};
+ghost use Rattle.profile.specs.Calls.{Call};
+ghost use Rattle.profile.specs.Replies.{plain};
+ghost use Rattle.store.specs.View.{held};
+ghost use Rattle.store.specs.Promises.{FreshAs, Ensured, EnsuredBeside, Followed};
+
+// A refused node number gives a device with node number 127.
+pub fn create(
+    octets: &mut [u8; 21],
+    flags: &mut [bool; 12],
+    words: &mut [u64; 28],
+    limits: &mut [i32; 32],
+    deltas: &mut [u32; 48],
+    values: &mut [i16; 56],
+    number: u8,
+) -> u32
+    ensures { λ r. ⌜ FreshAs number r
+        (held (now (octets .exit)) (now (flags .exit)) (now (words .exit)) (now (limits .exit)) (now (deltas .exit))
+        (now (values .exit))) ⌝ }
+{
+    let refused = create_refusal(number);
+    if refused != 0 {
+        set_fresh(octets, flags, words, limits, deltas, values, 127);
+        return refused;
+    }
+    set_fresh(octets, flags, words, limits, deltas, values, number);
+    0
+}
+
+pub fn command(
+    octets: &mut [u8; 21],
+    flags: &mut [bool; 12],
+    words: &mut [u64; 28],
+    limits: &mut [i32; 32],
+    deltas: &mut [u32; 48],
+    values: &mut [i16; 56],
+    code: u8,
+    to: u8,
+) -> u32
+    ensures { λ r. ⌜ Ensured
+        (held (now (octets .entry)) (now (flags .entry)) (now (words .entry)) (now (limits .entry)) (now (deltas .entry))
+        (now (values .entry)))
+        (Call.command code to) (plain r)
+        (held (now (octets .exit)) (now (flags .exit)) (now (words .exit)) (now (limits .exit)) (now (deltas .exit))
+        (now (values .exit))) ⌝ }
+{
+    lend(octets, flags, words, values);
+    lend_settings(limits, deltas);
+    let refused = command_refusal(code, to);
+    if refused != 0 {
+        return refused;
+    }
+    let was = node_at(octets, flags);
+    if !was.is_addressed(to) {
+        return 0;
+    }
+    if code == RESET_NODE {
+        set_fresh(octets, flags, words, limits, deltas, values, was.number);
+        return 0;
+    }
+    let new = was.obeyed(code);
+    set_node(octets, flags, new);
+    follow_fault(flags, words, values, was.in_fault(), new.in_fault());
+    0
+}
+
+pub fn raise(
+    octets: &mut [u8; 21],
+    flags: &mut [bool; 12],
+    words: &mut [u64; 28],
+    values: &mut [i16; 56],
+    cause: Cause,
+) -> u32
+    ensures { λ r. ⌜ EnsuredBeside (now (octets .entry)) (now (flags .entry)) (now (words .entry)) (now (values .entry))
+        (Call.raise cause) (plain r)
+        (now (octets .exit)) (now (flags .exit)) (now (words .exit)) (now (values .exit)) ⌝ }
+{
+    lend(octets, flags, words, values);
+    let was = node_at(octets, flags);
+    let new = was.raised(cause);
+    set_node(octets, flags, new);
+    follow_fault(flags, words, values, was.in_fault(), new.in_fault());
+    0
+}
+
+pub fn clear(
+    octets: &mut [u8; 21],
+    flags: &mut [bool; 12],
+    words: &mut [u64; 28],
+    values: &mut [i16; 56],
+    cause: Cause,
+) -> u32
+    ensures { λ r. ⌜ EnsuredBeside (now (octets .entry)) (now (flags .entry)) (now (words .entry)) (now (values .entry))
+        (Call.clear cause) (plain r)
+        (now (octets .exit)) (now (flags .exit)) (now (words .exit)) (now (values .exit)) ⌝ }
+{
+    lend(octets, flags, words, values);
+    let was = node_at(octets, flags);
+    let new = was.cleared(cause);
+    set_node(octets, flags, new);
+    follow_fault(flags, words, values, was.in_fault(), new.in_fault());
+    0
+}
+
+// Where fault begins or ends every output moves.
+fn follow_fault(
+    flags: &[bool; 12],
+    words: &mut [u64; 28],
+    values: &mut [i16; 56],
+    before: bool,
+    after: bool,
+)
+    requires { ⌜ (length (now words) ≡ 28) × (length (now values) ≡ 56) ⌝ }
+    ensures { λ _. ⌜ Followed before after (now (flags .entry)) (now (words .entry)) (now (words .exit)) (now (values .entry))
+        (now (values .exit)) ⌝ }
+{
+    if before == after {
+        return;
+    }
+    move_outputs(words, before, after);
+    move_all(flags, values, before, after);
+}

@@ -1,0 +1,3 @@
+-- The reply that a read in place is.
+-- Assumes nothing.
+pub mod View

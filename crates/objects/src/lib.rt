@@ -1,0 +1,195 @@
+// read and write, in place.
+use channels::fields::input_at;
+use channels::fields::output_at;
+use channels::inputs;
+use channels::inputs::clear_sources;
+use channels::inputs::read_input;
+use channels::inputs::read_sources;
+use channels::numbers::number;
+use channels::outputs;
+use channels::outputs::read_output;
+use lines::machines;
+use profile::Entry;
+use profile::Home;
+use profile::refusals::access_refusal;
+use profile::refusals::entry_refusal;
+use profile::refusals::value_refusal;
+use store::lend;
+use store::lend_settings;
+use store::node_at;
+use store::set_node;
+ghost use mathlib.Core.Path.{_≡_};
+ghost use lib.ListN.{length};
+ghost use Rattle.profile.specs.Calls.{Call};
+ghost use Rattle.profile.specs.Replies.{readValue, plain};
+ghost use Rattle.store.specs.View.{held, partsOf, machinesOf, Sized};
+ghost use Rattle.store.specs.Promises.{Ensured, Stepped, wrote, Readable, Writable, SourcesRead};
+ghost use Rattle.objects.specs.View.{readNumber};
+
+// What a read in place answers.
+#[repr(C)]
+pub struct ReadNumber {
+    pub number: u32,
+    pub value: u32,
+    // In bytes.
+    pub size: usize,
+}
+
+pub fn read(
+    octets: &mut [u8; 21],
+    flags: &[bool; 12],
+    words: &[u64; 28],
+    limits: &[i32; 32],
+    deltas: &[u32; 48],
+    values: &[i16; 56],
+    index: u16,
+    sub: u8,
+) -> ReadNumber
+    ensures { λ r. ⌜ Ensured
+        (held (now (octets .entry)) (now (flags .entry)) (now (words .entry)) (now (limits .entry)) (now (deltas .entry))
+        (now (values .entry)))
+        (Call.read index sub) (readNumber r)
+        (held (now (octets .exit)) (now (flags .entry)) (now (words .entry)) (now (limits .entry)) (now (deltas .entry))
+        (now (values .entry))) ⌝ }
+{
+    lend(octets, flags, words, values);
+    let entry = Entry::find(index, sub);
+    let was = node_at(octets, flags);
+    let refused = entry_refusal(was.is_stopped(), entry);
+    if refused != 0 {
+        return ReadNumber {
+            number: refused,
+            value: 0,
+            size: 0,
+        };
+    }
+    let home = entry.home;
+    let value = value_at(octets, flags, words, limits, deltas, values, home);
+    take_sources(octets, home);
+    ReadNumber {
+        number: 0,
+        value,
+        size: entry.size as usize,
+    }
+}
+
+// The value that a read of an entry answers.
+fn value_at(
+    octets: &[u8; 21],
+    flags: &[bool; 12],
+    words: &[u64; 28],
+    limits: &[i32; 32],
+    deltas: &[u32; 48],
+    values: &[i16; 56],
+    home: Home,
+) -> u32
+    requires { ⌜ Readable home ⌝ }
+    ensures { λ r. ⌜ r ≡ readValue (machinesOf
+        (held (now (octets .entry)) (now (flags .entry)) (now (words .entry)) (now (limits .entry)) (now (deltas .entry))
+        (now (values .entry)))) home ⌝ }
+{
+    match home {
+        Home::Constant(value) => value,
+        Home::Window(row, width, sub) => machines::read(words, row, width, sub),
+        Home::InputChannel(index, n) => {
+            let channel = input_at(octets, limits, deltas, values, n);
+            read_input(channel, index)
+        }
+        Home::OutputChannel(index, n) => {
+            let channel = output_at(flags, values, n);
+            read_output(channel, index)
+        }
+        Home::Sources => read_sources(octets),
+        Home::Device(index) => {
+            let was = node_at(octets, flags);
+            was.read(index)
+        }
+    }
+}
+
+// A read of 6422:1 clears the source bits that it answers.
+fn take_sources(octets: &mut [u8; 21], home: Home)
+    requires { ⌜ length (now octets) ≡ 21 ⌝ }
+    ensures { λ _. ⌜ SourcesRead home (now (octets .entry)) (now (octets .exit)) ⌝ }
+{
+    if let Home::Sources = home {
+        clear_sources(octets);
+    }
+}
+
+pub fn write(
+    octets: &mut [u8; 21],
+    flags: &mut [bool; 12],
+    words: &mut [u64; 28],
+    limits: &mut [i32; 32],
+    deltas: &mut [u32; 48],
+    values: &mut [i16; 56],
+    index: u16,
+    sub: u8,
+    bytes: &[u8],
+) -> u32
+    ensures { λ r. ⌜ Ensured
+        (held (now (octets .entry)) (now (flags .entry)) (now (words .entry)) (now (limits .entry)) (now (deltas .entry))
+        (now (values .entry)))
+        (Call.write index sub (now (bytes .entry))) (plain r)
+        (held (now (octets .exit)) (now (flags .exit)) (now (words .exit)) (now (limits .exit)) (now (deltas .exit))
+        (now (values .exit))) ⌝ }
+{
+    lend(octets, flags, words, values);
+    lend_settings(limits, deltas);
+    let entry = Entry::find(index, sub);
+    let was = node_at(octets, flags);
+    let refused = access_refusal(was.is_stopped(), entry, bytes.len());
+    if refused != 0 {
+        return refused;
+    }
+    let value = number(bytes);
+    let forbidden = value_refusal(entry, value);
+    if forbidden != 0 {
+        return forbidden;
+    }
+    let home = entry.home;
+    after_write(octets, flags, words, limits, deltas, values, home, value);
+    0
+}
+
+// A write that is not refused, by where its entry lives.
+fn after_write(
+    octets: &mut [u8; 21],
+    flags: &mut [bool; 12],
+    words: &mut [u64; 28],
+    limits: &mut [i32; 32],
+    deltas: &mut [u32; 48],
+    values: &mut [i16; 56],
+    home: Home,
+    value: u32,
+)
+    requires { ⌜ Sized (held (now octets) (now flags) (now words) (now limits) (now deltas) (now values)) ⌝ }
+    requires { ⌜ Writable home value ⌝ }
+    ensures { λ _. ⌜ Stepped
+        (held (now (octets .entry)) (now (flags .entry)) (now (words .entry)) (now (limits .entry)) (now (deltas .entry))
+        (now (values .entry)))
+        (held (now (octets .exit)) (now (flags .exit)) (now (words .exit)) (now (limits .exit)) (now (deltas .exit)) (now (values .exit)))
+        (wrote home value (partsOf
+        (held (now (octets .entry)) (now (flags .entry)) (now (words .entry)) (now (limits .entry)) (now (deltas .entry))
+        (now (values .entry))))) ⌝ }
+{
+    let was = node_at(octets, flags);
+    match home {
+        Home::Constant(_) => {}
+        Home::Window(row, width, sub) => {
+            machines::write(words, row, width, sub, value, was.in_fault());
+        }
+        Home::InputChannel(index, n) => {
+            inputs::write_at(octets, limits, deltas, values, n, index, value);
+        }
+        Home::OutputChannel(index, n) => {
+            outputs::write_at(flags, values, n, index, value, was.in_fault());
+        }
+        Home::Sources => {}
+        Home::Device(index) => {
+            let next = was.written(index, value);
+            set_node(octets, flags, next);
+        }
+    }
+}

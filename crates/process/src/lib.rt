@@ -1,0 +1,82 @@
+// sample and drive, in place.
+use channels::inputs::sample_all;
+use channels::outputs;
+use lines::Row;
+use lines::machines;
+use profile::refusals::drive_refusal;
+use profile::refusals::sample_refusal;
+use store::lend;
+use store::node_at;
+ghost use Rattle.profile.specs.Calls.{Call};
+ghost use Rattle.store.specs.View.{held};
+ghost use Rattle.store.specs.Promises.{Ensured, EnsuredOf};
+ghost use Rattle.process.specs.View.{sampleNumber, driveNumber};
+ghost use Rattle.process.specs.Promises.{Reported};
+
+// What a sample in place answers, beside the event buffer.
+#[repr(C)]
+pub struct SampleNumber {
+    pub number: u32,
+    // Bit n - 1 for channel n.
+    pub events: u16,
+}
+
+pub fn sample(
+    octets: &mut [u8; 21],
+    flags: &[bool; 12],
+    words: &mut [u64; 28],
+    limits: &[i32; 32],
+    deltas: &[u32; 48],
+    values: &mut [i16; 56],
+    digital: &[u8],
+    analogue: &[i16],
+    events: &mut [u8],
+) -> SampleNumber
+    ensures { λ r. ⌜ Ensured
+        (held (now (octets .entry)) (now (flags .entry)) (now (words .entry)) (now (limits .entry)) (now (deltas .entry))
+        (now (values .entry)))
+        (Call.sample (now (digital .entry)) (now (analogue .entry)) (now (events .entry))) (sampleNumber r (now (events .exit)))
+        (held (now (octets .exit)) (now (flags .entry)) (now (words .exit)) (now (limits .entry)) (now (deltas .entry))
+        (now (values .exit))) ⌝ }
+{
+    lend(octets, flags, words, values);
+    let refused = sample_refusal(digital.len(), analogue.len(), events.len());
+    if refused != 0 {
+        return SampleNumber {
+            number: refused,
+            events: 0,
+        };
+    }
+    let node = node_at(octets, flags);
+    let operational = node.is_operational();
+    let edges = machines::sample(words, Row::load(digital));
+    reported(edges, operational & node.digital).store(events);
+    let on = operational & node.analogue;
+    let met = sample_all(octets, limits, deltas, values, analogue, on);
+    SampleNumber {
+        number: 0,
+        events: met,
+    }
+}
+
+pub fn drive(words: &[u64; 28], values: &[i16; 56], lines: &mut [u8], channels: &mut [i16]) -> u32
+    ensures { λ r. ⌜ EnsuredOf (now (words .entry)) (now (values .entry))
+        (Call.drive (now (lines .entry)) (now (channels .entry))) (driveNumber r (now (lines .exit)) (now (channels .exit))) ⌝ }
+{
+    let refused = drive_refusal(lines.len(), channels.len());
+    if refused == 0 {
+        machines::drive(words, lines);
+        outputs::drive(values, channels);
+    }
+    refused
+}
+
+// Edges are events while the node is operational and 6005 is 1.
+fn reported(edges: Row, on: bool) -> Row
+    ensures { λ r. ⌜ Reported on edges r ⌝ }
+{
+    if on {
+        return edges;
+    }
+    Row { low: 0, high: 0 }
+}

@@ -1,0 +1,175 @@
+-- What the parts of a call make of the arrays, as steps of the machines.
+-- Assumes nothing.
+use mathlib.Core.Path.{_≡_, refl, ap, subst, _∙_}
+use mathlib.Core.Bool.{Bool, true, false, false≢true}
+use mathlib.Core.List.{List, [], _∷_}
+use Prim.Native.Nat.{ℕ, _<_}
+use native.Mathlib.Omega.{arith}
+use lib.ListN.{length, getD, replicate}
+use lib.IntN.{ℤ, pos}
+use Rattle.profile.specs.declared.Node.{Node}
+use Rattle.profile.specs.declared.Home.{Home}
+use Rattle.profile.specs.declared.Home.the-variants.{Constant, Window, InputChannel, OutputChannel, Sources}
+use Rattle.profile.specs.declared.Home.the-variants as home
+use Rattle.profile.specs.Bits.{bitAt, gather}
+use Rattle.profile.specs.Nodes.{fault}
+use Rattle.profile.specs.AnalogueInput.{freshAnalogueInput}
+use Rattle.profile.specs.AnalogueOutput.{freshAnalogueOutput, moveAnalogueOutput}
+use Rattle.profile.specs.Entries.{readsSources}
+use Rattle.profile.specs.NodeAlone.{writeNode}
+use Rattle.profile.specs.Replies.{readValue}
+use Rattle.profile.specs.Outcome.{Same}
+use Rattle.lines.specs.Promises as line
+use Rattle.lines.proofs.ColumnLaws.{end, _▸_, all-at}
+use Rattle.channels.specs.View.{inputAt, outputAt, sourcesOf}
+use Rattle.channels.specs.Promises.{InputStored, OutputStored}
+use Rattle.channels.proofs.SourceLaws.{sources-taken}
+use Rattle.store.specs.View.{nodeAt, nodeOctets, nodeFlags, Store, partsOf, machinesOf, held}
+use Rattle.store.specs.Promises.{FreshLeft, Stepped, Followed, moved, wrote, hasRead, SourcesRead}
+use Rattle.store.proofs.MachineLaws.{fresh-machines, node-moved, window-wrote, input-wrote, output-wrote, setting-wrote, read-same}
+use Rattle.store.proofs.OutcomeLaws.{read-cleared}
+use Rattle.store.proofs.KeepLaws.{node-kept, inputs-kept, outputs-kept, node-stored, node-octets, node-flags, node-normal}
+use Rattle.store.proofs.KeepLaws.{same-state}
+
+-- ---- fresh arrays
+
+abbrev freshOctets : ℕ → List ℕ
+freshOctets number = number ∷ 127 ∷ 0 ∷ 7 ∷ 7 ∷ 7 ∷ 7 ∷ 7 ∷ 7 ∷ 7 ∷ 7 ∷ 7 ∷ 7 ∷ 7 ∷ 7 ∷ 7 ∷ 7 ∷ 7 ∷ 7 ∷ 0 ∷ 0 ∷ []
+
+abbrev freshFlags : List Bool
+freshFlags = false ∷ false ∷ true ∷ false ∷ true ∷ true ∷ true ∷ true ∷ true ∷ true ∷ true ∷ true ∷ []
+
+abbrev freshStore : ℕ → List ℕ → Store
+freshStore number words = held (freshOctets number) freshFlags words (replicate 32 (pos 0)) (replicate 48 0) (replicate 56 (pos 0))
+
+fresh-input : (number : ℕ) (words : List ℕ) (i : ℕ) → i < 16 → partsOf (freshStore number words) .inputs i ≡ freshAnalogueInput
+unfolding bitAt
+fresh-input number words i h =
+    all-at {P = λ i. partsOf (freshStore number words) .inputs i ≡ freshAnalogueInput} {k = 0}
+    (refl ▸ refl ▸ refl ▸ refl ▸ refl ▸ refl ▸ refl ▸ refl ▸ refl ▸ refl ▸ refl ▸ refl ▸ refl ▸ refl ▸ refl ▸ refl ▸ end) i (omega arith) h
+
+fresh-output : (number : ℕ) (words : List ℕ) (i : ℕ) → i < 8 → partsOf (freshStore number words) .outputs i ≡ freshAnalogueOutput
+fresh-output number words i h =
+    all-at {P = λ i. partsOf (freshStore number words) .outputs i ≡ freshAnalogueOutput} {k = 0}
+    (refl ▸ refl ▸ refl ▸ refl ▸ refl ▸ refl ▸ refl ▸ refl ▸ end) i (omega arith) h
+
+pub fresh-left : (number : ℕ) (words : List ℕ) → line.Fresh words → FreshLeft number (freshStore number words)
+fresh-left number words f =
+    record {
+      machines = fresh-machines (partsOf (freshStore number words)) number refl f (fresh-input number words) (fresh-output number words);
+      normal = record { state = refl };
+    }
+
+module _ (octets : List ℕ) (flags : List Bool) (words : List ℕ) (limits : List ℤ) (deltas : List ℕ) (values : List ℤ) where
+  abbrev start : Store
+  start = held octets flags words limits deltas values
+
+  -- ---- the node stored, and every output moved
+
+  module _ (n : Node) (lo : length octets ≡ 21) (lf : length flags ≡ 12) where
+    inputs-past : (values′ : List ℤ) → ((k : ℕ) → k < 32 → getD values′ k (pos 0) ≡ getD values k (pos 0)) → (i : ℕ) → i < 16
+        → inputAt (nodeOctets octets n) limits deltas values′ i ≡ inputAt octets limits deltas values i
+    inputs-past values′ v =
+        inputs-kept octets (nodeOctets octets n) limits deltas values values′ (λ k h. node-octets octets flags n lo lf .high k h) v
+
+    outputs-past : (i : ℕ) → i < 8 → outputAt (nodeFlags flags n) values i ≡ outputAt flags values i
+    outputs-past = outputs-kept flags (nodeFlags flags n) values values (λ k h. node-flags octets flags n lo lf .high k h) (λ k h. refl)
+
+    -- the node n that the code has made is m
+    pub entered : (m : Node) → n ≡ m → (words′ : List ℕ) (values′ : List ℤ) (before after : Bool) → before ≡ fault (nodeAt octets flags)
+        → after ≡ fault n → Followed before after (nodeFlags flags n) words words′ values values′
+        → Stepped start (held (nodeOctets octets n) (nodeFlags flags n) words′ limits deltas values′) (moved m (partsOf start))
+    entered m q words′ values′ before after b a f =
+        let left = held (nodeOctets octets n) (nodeFlags flags n) words′ limits deltas values′ in
+        let c = f .channels in
+        record {
+          machines =
+              subst (λ (x : Node). Same (machinesOf left) (moved x (partsOf start))) q
+              (node-moved (partsOf start) (partsOf left) n before after b a (node-stored octets flags n lo lf) (f .lines)
+              (inputs-past values′ (c .values-kept .low))
+              (record { channels = λ i h. c .moved .channels i h ∙ ap (moveAnalogueOutput before after) (outputs-past i h) }));
+          normal = λ old. record { state = node-normal octets flags n lo lf };
+        }
+
+    pub setting-stepped : (index v : ℕ) → n ≡ writeNode (home.Device index) v (nodeAt octets flags)
+        → Stepped start (held (nodeOctets octets n) (nodeFlags flags n) words limits deltas values)
+        (wrote (home.Device index) v (partsOf start))
+    setting-stepped index v is =
+        record {
+          machines =
+              setting-wrote (partsOf start) (partsOf (held (nodeOctets octets n) (nodeFlags flags n) words limits deltas values)) index v
+              (node-stored octets flags n lo lf ∙ is) refl (inputs-past values (λ k h. refl)) outputs-past;
+          normal = λ old. record { state = node-normal octets flags n lo lf };
+        }
+
+  -- ---- a write to a window, an input or an output
+
+  pub window-stepped : (words′ : List ℕ) (row w s v : ℕ) → line.Written (fault (nodeAt octets flags)) words row w s v words′
+      → Stepped start (held octets flags words′ limits deltas values) (wrote (Window row w s) v (partsOf start))
+  window-stepped words′ row w s v l =
+      record {
+        machines =
+            window-wrote (partsOf start) (partsOf (held octets flags words′ limits deltas values)) refl row w s v l (λ i h. refl)
+            (λ i h. refl);
+        normal = same-state start (held octets flags words′ limits deltas values) refl;
+      }
+
+  pub input-stepped : (octets′ : List ℕ) (limits′ : List ℤ) (deltas′ : List ℕ) (index n v : ℕ)
+      → InputStored index n v (inputAt octets limits deltas values) (inputAt octets′ limits′ deltas′ values) octets octets′
+      → Stepped start (held octets′ flags words limits′ deltas′ values) (wrote (InputChannel index n) v (partsOf start))
+  input-stepped octets′ limits′ deltas′ index n v s =
+      record {
+        machines =
+            input-wrote (partsOf start) (partsOf (held octets′ flags words limits′ deltas′ values))
+            (node-kept octets octets′ flags flags (λ k h. s .octets-kept .low k h) (λ k h. refl)) refl index n v (s .written) (λ i h. refl);
+        normal = same-state start (held octets′ flags words limits′ deltas′ values) (s .octets-kept .low 1 (omega arith));
+      }
+
+  pub output-stepped : (flags′ : List Bool) (values′ : List ℤ) (index n v : ℕ)
+      → OutputStored (fault (nodeAt octets flags)) index n v (outputAt flags values) (outputAt flags′ values′) flags flags′ values values′
+      → Stepped start (held octets flags′ words limits deltas values′) (wrote (OutputChannel index n) v (partsOf start))
+  output-stepped flags′ values′ index n v s =
+      record {
+        machines =
+            output-wrote (partsOf start) (partsOf (held octets flags′ words limits deltas values′))
+            (node-kept octets octets flags flags′ (λ k h. refl) (λ k h. s .flags-kept .low k h)) refl index n v (s .written)
+            (inputs-kept octets octets limits deltas values values′ (λ k h. refl) (λ k h. s .values-kept .low k h));
+        normal = same-state start (held octets flags′ words limits deltas values′) refl;
+      }
+
+  -- ---- a read
+
+  -- the value read of 6422:1 are the source bits
+  sources-in : (e : Home) (v : ℕ) → v ≡ readValue (machinesOf start) e → readsSources e ≡ true
+      → v ≡ gather 16 (bitAt (sourcesOf octets))
+  unfolding readValue
+  sources-in (Constant x) v q h = absurd (false≢true h)
+  sources-in (Window row w s) v q h = absurd (false≢true h)
+  sources-in (InputChannel index n) v q h = absurd (false≢true h)
+  sources-in (OutputChannel index n) v q h = absurd (false≢true h)
+  sources-in Sources v q h = q
+  sources-in (home.Device index) v q h = absurd (false≢true h)
+
+  module _ (octets′ : List ℕ) (e : Home) (v : ℕ) (ev : v ≡ readValue (machinesOf start) e) (s : SourcesRead e octets octets′) where
+    abbrev read-left : Store
+    read-left = held octets′ flags words limits deltas values
+
+    read-by : (b : Bool) → readsSources e ≡ b → Stepped start read-left (hasRead e (partsOf start))
+    read-by true h =
+        let c = s .cleared h in
+        record {
+          machines =
+              read-cleared (partsOf start) (partsOf read-left) e
+              (node-kept octets octets′ flags flags (λ k l. c .octets-kept .low k (omega (arith, l))) (λ k l. refl)) refl (λ k l. refl) h v
+              (sources-taken octets octets′ limits deltas values values v (sources-in e v ev h) c);
+          normal = same-state start read-left (c .octets-kept .low 1 (omega arith));
+        }
+    read-by false h =
+        record {
+          machines = rw (s .kept h) (read-same (partsOf start) e h);
+          normal = same-state start read-left
+              (ap (λ (o : List ℕ). getD o 1 0) (s .kept h));
+        }
+
+    pub read-stepped : Stepped start read-left (hasRead e (partsOf start))
+    read-stepped = read-by (readsSources e) refl

@@ -1,0 +1,113 @@
+// The six arrays of a device: the node that they hold, and fresh arrays. What the calls in place promise of them is in specs/.
+use channels::fields::set_modes;
+use channels::fields::set_sources;
+use lines::machines;
+use profile::Node;
+use profile::State;
+ghost use mathlib.Core.Path.{_≡_};
+ghost use Rattle.store.specs.View.{stateOf, stateNumber, nodeAt, nodeOctets, nodeFlags, held};
+ghost use Rattle.store.specs.Promises.{FreshLeft};
+
+// In octets.
+const NUMBER: usize = 0;
+
+const STATE: usize = 1;
+
+const BEHAVIOUR: usize = 2;
+
+// In flags.
+const INTERNAL: usize = 0;
+
+const LOST: usize = 1;
+
+const DIGITAL: usize = 2;
+
+const ANALOGUE: usize = 3;
+
+// It does nothing. Where an array is lent as a slice, the proof learns its length.
+pub fn lend(octets: &[u8], flags: &[bool], words: &[u64], values: &[i16]) {}
+
+// The same for the two arrays that only a write and a command change.
+pub fn lend_settings(limits: &[i32], deltas: &[u32]) {}
+
+// A number that no state has counts as stopped.
+fn state_of(number: u8) -> State
+    ensures { λ r. ⌜ r ≡ stateOf number ⌝ }
+{
+    if number == 127 {
+        return State::PreOperational;
+    }
+    if number == 5 {
+        return State::Operational;
+    }
+    State::Stopped
+}
+
+// As a heartbeat gives it.
+fn state_number(state: State) -> u8
+    ensures { λ r. ⌜ r ≡ stateNumber state ⌝ }
+{
+    match state {
+        State::PreOperational => 127,
+        State::Operational => 5,
+        State::Stopped => 4,
+    }
+}
+
+pub fn node_at(octets: &[u8; 21], flags: &[bool; 12]) -> Node
+    ensures { λ r. ⌜ r ≡ nodeAt (now (octets .entry)) (now (flags .entry)) ⌝ }
+{
+    let number = octets[STATE];
+    let state = state_of(number);
+    Node {
+        number: octets[NUMBER],
+        state,
+        internal: flags[INTERNAL],
+        lost: flags[LOST],
+        behaviour: octets[BEHAVIOUR],
+        digital: flags[DIGITAL],
+        analogue: flags[ANALOGUE],
+    }
+}
+
+pub fn set_node(octets: &mut [u8; 21], flags: &mut [bool; 12], new: Node)
+    ensures { λ _. ⌜ (now (octets .exit) ≡ nodeOctets (now (octets .entry)) new) ×
+        (now (flags .exit) ≡ nodeFlags (now (flags .entry)) new) ⌝ }
+{
+    let state = new.state;
+    let number = state_number(state);
+    octets[NUMBER] = new.number;
+    octets[STATE] = number;
+    octets[BEHAVIOUR] = new.behaviour;
+    flags[INTERNAL] = new.internal;
+    flags[LOST] = new.lost;
+    flags[DIGITAL] = new.digital;
+    flags[ANALOGUE] = new.analogue;
+}
+
+// Every object at its default.
+pub fn set_fresh(
+    octets: &mut [u8; 21],
+    flags: &mut [bool; 12],
+    words: &mut [u64; 28],
+    limits: &mut [i32; 32],
+    deltas: &mut [u32; 48],
+    values: &mut [i16; 56],
+    number: u8,
+)
+    ensures { λ _. ⌜ FreshLeft number
+        (held (now (octets .exit)) (now (flags .exit)) (now (words .exit)) (now (limits .exit)) (now (deltas .exit))
+        (now (values .exit))) ⌝ }
+{
+    // Every selection is 7.
+    *octets = [7; 21];
+    set_sources(octets, 0);
+    *flags = [false; 12];
+    let node = Node::fresh(number);
+    set_node(octets, flags, node);
+    set_modes(flags);
+    machines::fresh(words);
+    *limits = [0; 32];
+    *deltas = [0; 48];
+    *values = [0; 56];
+}
