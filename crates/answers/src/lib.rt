@@ -15,9 +15,9 @@ ghost use Rattle.answers.specs.Texts.{Put};
 ghost use Rattle.answers.specs.Answers.{numberText, endText, linesText, entryText};
 ghost use Rattle.answers.specs.Answers.{plainLine, writeLine, readLine, sampleLine, driveLine, unknownLine};
 ghost use Rattle.answers.specs.Answers.{unmetLine, totalsText, judgedText};
+use dictionary::entries::find;
 use notation::Expected;
 use notation::items::first_bytes;
-use profile::Entry;
 use profile::Home;
 
 // Bytes put into a lent buffer.
@@ -117,7 +117,7 @@ fn end(out: &mut [u8], at: usize, number: u32) -> usize
 fn end_access(out: &mut [u8], at: usize, index: u16, sub: u8) -> usize
     ensures { λ r. ⌜ Put (entryText (homeOf index sub)) (now (out .entry)) at (now (out .exit)) r ⌝ }
 {
-    let entry = Entry::find(index, sub);
+    let entry = find(index, sub);
     let home = entry.home;
     if let Home::Window(row, width, place) = home {
         let first = put_all(out, at, b" (");

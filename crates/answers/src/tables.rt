@@ -6,20 +6,20 @@ ghost use Rattle.notation.specs.Words.{InFront};
 ghost use Rattle.answers.specs.Texts.{Put};
 ghost use Rattle.answers.specs.Tables.{PutFrom, entryOf};
 ghost use Rattle.answers.specs.Answers.{refusalText, attributeText, expectedText, expectedPlace};
+use dictionary::refusals::NO_OBJECT;
+use dictionary::refusals::NO_SUB_INDEX;
+use dictionary::refusals::NOT_ALLOWED;
+use dictionary::refusals::READ_ONLY;
+use dictionary::refusals::STOPPED;
+use dictionary::refusals::TOO_HIGH;
+use dictionary::refusals::TOO_LONG;
+use dictionary::refusals::TOO_LOW;
+use dictionary::refusals::TOO_SHORT;
 use notation::Expected;
 use notation::words::back;
 use notation::words::front;
 use notation::words::until;
 use notation::words::without_first;
-use profile::refusals::NO_OBJECT;
-use profile::refusals::NO_SUB_INDEX;
-use profile::refusals::NOT_ALLOWED;
-use profile::refusals::READ_ONLY;
-use profile::refusals::STOPPED;
-use profile::refusals::TOO_HIGH;
-use profile::refusals::TOO_LONG;
-use profile::refusals::TOO_LOW;
-use profile::refusals::TOO_SHORT;
 
 // An attribute of the digital lines.
 pub fn put_attribute(out: &mut [u8], at: usize, row: usize) -> usize

@@ -1,10 +1,15 @@
 // create, command, raise and clear, in place.
 use channels::outputs::move_all;
+use dictionary::refusals::command_refusal;
+use dictionary::refusals::create_refusal;
 use lines::machines::move_outputs;
+use nodes::cleared;
+use nodes::in_fault;
+use nodes::is_addressed;
+use nodes::obeyed;
+use nodes::raised;
 use profile::Cause;
-use profile::nodes::RESET_NODE;
-use profile::refusals::command_refusal;
-use profile::refusals::create_refusal;
+use profile::commands::RESET_NODE;
 use store::lend;
 use store::lend_settings;
 use store::node_at;
@@ -64,16 +69,16 @@ pub fn command(
         return refused;
     }
     let was = node_at(octets, flags);
-    if !was.is_addressed(to) {
+    if !is_addressed(was, to) {
         return 0;
     }
     if code == RESET_NODE {
         set_fresh(octets, flags, words, limits, deltas, values, was.number);
         return 0;
     }
-    let new = was.obeyed(code);
+    let new = obeyed(was, code);
     set_node(octets, flags, new);
-    follow_fault(flags, words, values, was.in_fault(), new.in_fault());
+    follow_fault(flags, words, values, in_fault(was), in_fault(new));
     0
 }
 
@@ -90,9 +95,9 @@ pub fn raise(
 {
     lend(octets, flags, words, values);
     let was = node_at(octets, flags);
-    let new = was.raised(cause);
+    let new = raised(was, cause);
     set_node(octets, flags, new);
-    follow_fault(flags, words, values, was.in_fault(), new.in_fault());
+    follow_fault(flags, words, values, in_fault(was), in_fault(new));
     0
 }
 
@@ -109,9 +114,9 @@ pub fn clear(
 {
     lend(octets, flags, words, values);
     let was = node_at(octets, flags);
-    let new = was.cleared(cause);
+    let new = cleared(was, cause);
     set_node(octets, flags, new);
-    follow_fault(flags, words, values, was.in_fault(), new.in_fault());
+    follow_fault(flags, words, values, in_fault(was), in_fault(new));
     0
 }
 

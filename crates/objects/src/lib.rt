@@ -8,12 +8,15 @@ use channels::inputs::read_sources;
 use channels::numbers::number;
 use channels::outputs;
 use channels::outputs::read_output;
+use dictionary::entries::find;
+use dictionary::refusals::access_refusal;
+use dictionary::refusals::entry_refusal;
+use dictionary::refusals::value_refusal;
 use lines::machines;
-use profile::Entry;
+use nodes::in_fault;
+use nodes::is_stopped;
+use nodes::written;
 use profile::Home;
-use profile::refusals::access_refusal;
-use profile::refusals::entry_refusal;
-use profile::refusals::value_refusal;
 use store::lend;
 use store::lend_settings;
 use store::node_at;
@@ -53,9 +56,9 @@ pub fn read(
         (now (values .entry))) ⌝ }
 {
     lend(octets, flags, words, values);
-    let entry = Entry::find(index, sub);
+    let entry = find(index, sub);
     let was = node_at(octets, flags);
-    let refused = entry_refusal(was.is_stopped(), entry);
+    let refused = entry_refusal(is_stopped(was), entry);
     if refused != 0 {
         return ReadNumber {
             number: refused,
@@ -102,7 +105,7 @@ fn value_at(
         Home::Sources => read_sources(octets),
         Home::Device(index) => {
             let was = node_at(octets, flags);
-            was.read(index)
+            nodes::read(was, index)
         }
     }
 }
@@ -137,9 +140,9 @@ pub fn write(
 {
     lend(octets, flags, words, values);
     lend_settings(limits, deltas);
-    let entry = Entry::find(index, sub);
+    let entry = find(index, sub);
     let was = node_at(octets, flags);
-    let refused = access_refusal(was.is_stopped(), entry, bytes.len());
+    let refused = access_refusal(is_stopped(was), entry, bytes.len());
     if refused != 0 {
         return refused;
     }
@@ -178,17 +181,17 @@ fn after_write(
     match home {
         Home::Constant(_) => {}
         Home::Window(row, width, sub) => {
-            machines::write(words, row, width, sub, value, was.in_fault());
+            machines::write(words, row, width, sub, value, in_fault(was));
         }
         Home::InputChannel(index, n) => {
             inputs::write_at(octets, limits, deltas, values, n, index, value);
         }
         Home::OutputChannel(index, n) => {
-            outputs::write_at(flags, values, n, index, value, was.in_fault());
+            outputs::write_at(flags, values, n, index, value, in_fault(was));
         }
         Home::Sources => {}
         Home::Device(index) => {
-            let next = was.written(index, value);
+            let next = written(was, index, value);
             set_node(octets, flags, next);
         }
     }

@@ -1,10 +1,11 @@
 // sample and drive, in place.
 use channels::inputs::sample_all;
 use channels::outputs;
+use dictionary::refusals::drive_refusal;
+use dictionary::refusals::sample_refusal;
 use lines::Row;
 use lines::machines;
-use profile::refusals::drive_refusal;
-use profile::refusals::sample_refusal;
+use nodes::is_operational;
 use store::lend;
 use store::node_at;
 ghost use Rattle.profile.specs.Calls.{Call};
@@ -48,7 +49,7 @@ pub fn sample(
         };
     }
     let node = node_at(octets, flags);
-    let operational = node.is_operational();
+    let operational = is_operational(node);
     let edges = machines::sample(words, Row::load(digital));
     reported(edges, operational & node.digital).store(events);
     let on = operational & node.analogue;

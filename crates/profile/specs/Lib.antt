@@ -4,7 +4,6 @@ pub mod Bits
 pub mod Bytes
 pub mod Nodes
 pub mod Entries
-pub mod Lookup
 pub mod Calls
 pub mod Refusals
 pub mod Rules

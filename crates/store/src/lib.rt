@@ -2,6 +2,7 @@
 use channels::fields::set_modes;
 use channels::fields::set_sources;
 use lines::machines;
+use nodes::fresh;
 use profile::Node;
 use profile::State;
 ghost use mathlib.Core.Path.{_≡_};
@@ -103,7 +104,7 @@ pub fn set_fresh(
     *octets = [7; 21];
     set_sources(octets, 0);
     *flags = [false; 12];
-    let node = Node::fresh(number);
+    let node = fresh(number);
     set_node(octets, flags, node);
     set_modes(flags);
     machines::fresh(words);

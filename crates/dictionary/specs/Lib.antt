@@ -1,0 +1,3 @@
+-- How an index is looked up.
+-- Assumes nothing.
+pub mod Lookup
