@@ -12,17 +12,17 @@ use lib.Seq.{drop-cons}
 use Rattle.notation.specs.Words.{run, InFront}
 
 -- an element is counted where it is the byte, or, with `same` false, is not
-pub counted : (same : Bool) (b x : ℕ) (xs : List ℕ) → eqb x b ≡ same → run same b (x ∷ xs) ≡ suc (run same b xs)
-counted true b x xs e = rw e
-counted false b x xs e = rw e
+pub run-one : (same : Bool) (b x : ℕ) (xs : List ℕ) → eqb x b ≡ same → run same b (x ∷ xs) ≡ suc (run same b xs)
+run-one true b x xs e = rw e
+run-one false b x xs e = rw e
 
-pub uncounted : (same : Bool) (b x : ℕ) (xs : List ℕ) → (eqb x b ≡ same → ⊥) → run same b (x ∷ xs) ≡ 0
-uncounted true b x xs n = other (eqb x b) n
+pub run-stop : (same : Bool) (b x : ℕ) (xs : List ℕ) → (eqb x b ≡ same → ⊥) → run same b (x ∷ xs) ≡ 0
+run-stop true b x xs n = other (eqb x b) n
   where
     other : (t : Bool) → (t ≡ true → ⊥) → cond t (suc (run true b xs)) 0 ≡ 0
     other true n = absurd (n refl)
     other false n = refl
-uncounted false b x xs n = other (eqb x b) n
+run-stop false b x xs n = other (eqb x b) n
   where
     other : (t : Bool) → (t ≡ false → ⊥) → cond t 0 (suc (run false b xs)) ≡ 0
     other true n = refl
@@ -48,13 +48,13 @@ module _ (same : Bool) (b : ℕ) (xs : List ℕ) (i : ℕ) where
       → run same b xs ≡ i + 1 + run same b (drop (i + 1) xs)
   run-more h e p =
       let q = p ∙ ap (λ (l : List ℕ). i + run same b l) (drop-cons xs i 0 h) ∙ ap (λ n. i + n)
-      (counted same b (getD xs i 0) (drop (suc i) xs) e) in
+      (run-one same b (getD xs i 0) (drop (suc i) xs) e) in
       rw add-one (omega (arith, q))
 
   pub run-stops : i < length xs → (eqb (getD xs i 0) b ≡ same → ⊥) → run same b xs ≡ i + run same b (drop i xs) → InFront same b xs i
   run-stops h e p =
       let q = p ∙ ap (λ (l : List ℕ). i + run same b l) (drop-cons xs i 0 h) ∙ ap (λ n. i + n)
-      (uncounted same b (getD xs i 0) (drop (suc i) xs) e) in
+      (run-stop same b (getD xs i 0) (drop (suc i) xs) e) in
       record { is = omega (arith, q); within = omega arith }
 
   pub run-ends : i ≤ length xs → length xs ≤ i → run same b xs ≡ i + run same b (drop i xs) → InFront same b xs i

@@ -15,7 +15,7 @@ use Rattle.notation.specs.Words.{isWord}
 use Rattle.notation.proofs.SplitLaws.{same-word}
 use Rattle.play.specs.declared.session.Session.{Session}
 use Rattle.play.specs.Playing.{withoutMark, lineOf}
-use Rattle.play.specs.Sessions.{counted, full, Answered, emptied, WrittenOut, heldLine, LinePlayed, plainByte, heldMore, longer}
+use Rattle.play.specs.Sessions.{counted, full, beside, Answered, emptied, WrittenOut, heldLine, LinePlayed, plainByte, heldMore, longer}
 use Rattle.play.specs.Sessions.{Took, PlayedLast}
 
 -- ---- the byte order mark
@@ -84,20 +84,7 @@ both-written t u out left at last p b d l h = p .written (omega (arith, length-a
 
 -- the session as the code begins a line
 abbrev begins : Session → ℕ → Session
-begins s n = record {
-  device = s .device;
-  calls = s .calls;
-  refused = s .refused;
-  unknown = s .unknown;
-  lines = n;
-  met = s .met;
-  unmet = s .unmet;
-  length = 0;
-  answer = s .answer;
-  at = s .at;
-  ended = s .ended;
-  failed = s .failed;
-}
+begins s n = beside s n (s .met) (s .unmet) 0 (s .answer) (s .at) (s .ended) (s .failed)
 
 pub line-played : (before between after : Session) (n : ℕ) (held front text answer out answer′ left : List ℕ)
     → n ≡ counted true (before .lines) → front ≡ take (before .length) held → text ≡ withoutMark n front

@@ -23,7 +23,7 @@ use Rattle.notation.specs.Meanings.Meaning.{unknown}
 use Rattle.play.specs.declared.session.Session.{Session}
 use Rattle.play.specs.Playing.{answerFor, machinesFor, Line, says, expects, shortMeaning, lineOf, isFirst, newer}
 use Rattle.play.proofs.PlayLaws.{whole}
-use Rattle.play.specs.Sessions.{counted, full, Played, PlayedWhole, lastOf, ofAnswer, Remembered, Answered}
+use Rattle.play.specs.Sessions.{counted, full, beside, Played, PlayedWhole, lastOf, ofAnswer, Remembered, Answered}
 
 -- ---- the last answer line
 
@@ -91,36 +91,10 @@ module _ (before : Session) (from : ℕ) (answer out front text : List ℕ) (f :
 
 -- a session that compared
 abbrev withMet : Session → ℕ → Session
-withMet s n = record {
-  device = s .device;
-  calls = s .calls;
-  refused = s .refused;
-  unknown = s .unknown;
-  lines = s .lines;
-  met = n;
-  unmet = s .unmet;
-  length = s .length;
-  answer = s .answer;
-  at = s .at;
-  ended = s .ended;
-  failed = s .failed;
-}
+withMet s n = beside s (s .lines) n (s .unmet) (s .length) (s .answer) (s .at) (s .ended) (s .failed)
 
 abbrev withUnmet : Session → ℕ → ℕ → Session
-withUnmet s n at = record {
-  device = s .device;
-  calls = s .calls;
-  refused = s .refused;
-  unknown = s .unknown;
-  lines = s .lines;
-  met = s .met;
-  unmet = n;
-  length = s .length;
-  answer = s .answer;
-  at = at;
-  ended = s .ended;
-  failed = s .failed;
-}
+withUnmet s n at = beside s (s .lines) (s .met) n (s .length) (s .answer) at (s .ended) (s .failed)
 
 -- a call, or a line that is none: its answer is held
 pub answered-call : (before played after : Session) (m : Meaning) (answer out answer′ left : List ℕ)

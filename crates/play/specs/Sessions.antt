@@ -84,26 +84,30 @@ pub record PlayedWhole (before : Session) (m : Meaning) (out : List ℕ) (after 
 
 -- ---- a line
 
+-- the session with the same device and calls, and all else as given
+abbrev pub beside : Session → ℕ → ℕ → ℕ → ℕ → ℕ → ℕ → Bool → Bool → Session
+beside s lines met unmet length answer at ended failed = record {
+  device = s .device;
+  calls = s .calls;
+  refused = s .refused;
+  unknown = s .unknown;
+  lines = lines;
+  met = met;
+  unmet = unmet;
+  length = length;
+  answer = answer;
+  at = at;
+  ended = ended;
+  failed = failed;
+}
+
 -- the last answer line is held in front of an array
 abbrev pub lastOf : Session → List ℕ → List ℕ
 lastOf s answer = take (s .answer) answer
 
 -- the session with another count of held bytes of an answer
 abbrev pub ofAnswer : Session → ℕ → Session
-ofAnswer s n = record {
-  device = s .device;
-  calls = s .calls;
-  refused = s .refused;
-  unknown = s .unknown;
-  lines = s .lines;
-  met = s .met;
-  unmet = s .unmet;
-  length = s .length;
-  answer = n;
-  at = s .at;
-  ended = s .ended;
-  failed = s .failed;
-}
+ofAnswer s n = beside s (s .lines) (s .met) (s .unmet) (s .length) n (s .at) (s .ended) (s .failed)
 
 -- what was put into the block from a place on is held, if it is any, and nothing else changed
 pub record Remembered (before : Session) (from : ℕ) (answer out : List ℕ) (after : Session) (answer′ : List ℕ) : Type 0 where
@@ -147,20 +151,7 @@ pub record WrittenOut (place : ℕ) (before after : Session) : Type 0 where
 
 -- a line begins: it is the next one, and no byte of the one after it is held
 abbrev pub begun : Session → Session
-begun s = record {
-  device = s .device;
-  calls = s .calls;
-  refused = s .refused;
-  unknown = s .unknown;
-  lines = counted true (s .lines);
-  met = s .met;
-  unmet = s .unmet;
-  length = 0;
-  answer = s .answer;
-  at = s .at;
-  ended = s .ended;
-  failed = s .failed;
-}
+begun s = beside s (counted true (s .lines)) (s .met) (s .unmet) 0 (s .answer) (s .at) (s .ended) (s .failed)
 
 -- the line that is held: its bytes in front of an array
 abbrev pub heldLine : Session → List ℕ → Line
@@ -187,20 +178,7 @@ longer n = cond (ltb n 1028) (n + 1) n
 
 -- the session with a line of another length
 abbrev pub ofLength : Session → ℕ → Session
-ofLength s n = record {
-  device = s .device;
-  calls = s .calls;
-  refused = s .refused;
-  unknown = s .unknown;
-  lines = s .lines;
-  met = s .met;
-  unmet = s .unmet;
-  length = n;
-  answer = s .answer;
-  at = s .at;
-  ended = s .ended;
-  failed = s .failed;
-}
+ofLength s n = beside s (s .lines) (s .met) (s .unmet) n (s .answer) (s .at) (s .ended) (s .failed)
 
 -- one byte of a list: a newline ends the line, and any other is held
 abbrev pub Took : Bool → Session → ℕ → List ℕ → List ℕ → List ℕ → Session → List ℕ → List ℕ → List ℕ → Type 0
@@ -219,17 +197,4 @@ PlayedLast false before held answer out after answer′ left = LinePlayed before
 
 -- the session ended: its input is over, or it failed
 abbrev pub endedAs : Session → Bool → Session
-endedAs s failed = record {
-  device = s .device;
-  calls = s .calls;
-  refused = s .refused;
-  unknown = s .unknown;
-  lines = s .lines;
-  met = s .met;
-  unmet = s .unmet;
-  length = s .length;
-  answer = s .answer;
-  at = s .at;
-  ended = true;
-  failed = failed;
-}
+endedAs s failed = beside s (s .lines) (s .met) (s .unmet) (s .length) (s .answer) (s .at) true failed

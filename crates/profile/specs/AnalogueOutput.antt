@@ -11,7 +11,7 @@ use Rattle.profile.specs.Bits.{bit}
 use Rattle.profile.specs.Nodes.{fault}
 use Rattle.profile.specs.Entries.{atOutputChannel}
 use Rattle.profile.specs.Rules.{Rules, put}
-use Rattle.profile.specs.OutputLine.{following, faultMoves}
+use Rattle.profile.specs.Outputs.{following, faultMoves}
 
 -- "6443 error mode (default 1), 6444 error value (default 0)"
 abbrev pub freshAnalogueOutput : AnalogueOutput

@@ -9,6 +9,7 @@ pub mod Refusals
 pub mod Rules
 pub mod NodeAlone
 pub mod InputLine
+pub mod Outputs
 pub mod OutputLine
 pub mod AnalogueInput
 pub mod AnalogueOutput

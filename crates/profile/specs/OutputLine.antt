@@ -9,6 +9,7 @@ use Rattle.profile.specs.Bits.{bitAt, flip}
 use Rattle.profile.specs.Nodes.{fault}
 use Rattle.profile.specs.Entries.{inside, bitOf, atWindow}
 use Rattle.profile.specs.Rules.{Rules, put}
+use Rattle.profile.specs.Outputs.{following, faultMoves}
 
 -- k is `kept`, d is `driven`
 pub record OutputLine : Type 0 where
@@ -48,19 +49,6 @@ withPolarity p d m =
 
 abbrev pub withDriven : Bool → OutputLine → OutputLine
 withDriven d m = withKept (m .kept) d m
-
--- "Outside fault d is k, inverted where polarity is 1. .. During fault d doesn't move, though k and settings are written."
-module _ {A : Type 0} where
-  abbrev pub following : Bool → A → A → A
-  following fault follows d = cond fault d follows
-
-  -- "When fault begins, d becomes the error value (polarity not applied) if error mode is 1, else stays. During fault d doesn't move.
-  -- When fault ends, d follows k and polarity again.": d by fault before and after
-  abbrev pub faultMoves : Bool → Bool → Bool → A → A → A → A
-  faultMoves false true mode error follows d = cond mode error d
-  faultMoves true false mode error follows d = follows
-  faultMoves false false mode error follows d = d
-  faultMoves true true mode error follows d = d
 
 -- "Writing bit w sets k to w if the filter mask is 1, else does nothing."
 abbrev pub writeKept : Bool → Bool → OutputLine → OutputLine
