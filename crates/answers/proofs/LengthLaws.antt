@@ -15,17 +15,17 @@ use borrow.Author.Tests.{ltb-true, ltb-false}
 use Rattle.profile.specs.declared.Home.{Home}
 use Rattle.profile.specs.Entries.{homeOf}
 use Rattle.profile.proofs.HomeLaws.{window-holds}
-use Rattle.notation.specs.declared.Expected.{Expected}
-use Rattle.notation.specs.declared.Expected.the-variants as Ex
-use Rattle.notation.specs.Ascii.{ascii}
-use Rattle.notation.specs.Words.{withByte, piecesOf, withoutEmpty, wordsOf}
+use Rattle.words.specs.declared.Expected.{Expected}
+use Rattle.words.specs.declared.Expected.the-variants as Ex
+use Rattle.words.specs.Ascii.{ascii}
+use Rattle.words.specs.Words.{withByte, piecesOf, withoutEmpty, wordsOf}
 use Rattle.answers.specs.Tables.{Row, textOf}
-use Rattle.answers.specs.Texts.{hexText, longHexText, placesOf, decimalText, bitsText, eachText, bytesText, numbersText, placeText}
-use Rattle.answers.specs.Texts.{wordsText, placesFrom, placesText}
+use Rattle.texts.specs.Texts.{hexText, longHexText, placesOf, decimalText, bitsText, eachText, bytesText, numbersText, placeText}
+use Rattle.texts.specs.Texts.{wordsText, placesFrom, placesText}
 use Rattle.answers.specs.Answers.{newline, inParentheses, numberText, refusals, refusalText, endText, attributes, linesText}
 use Rattle.answers.specs.Answers.{attributeText, entryText, plainLine, writeLine, fourBytes, readLine, sampleLine, driveLine}
 use Rattle.answers.specs.Answers.{expectedText, unknownLine, unmetLine, totalsText, judgedText}
-use Rattle.answers.proofs.ReadBack.{digits-length}
+use Rattle.texts.proofs.ReadBack.{digits-length}
 
 -- one of two texts
 short-cond : (m : ℕ) (t : Bool) (a b : List ℕ) → length a ≤ m → length b ≤ m → length (cond t a b) ≤ m

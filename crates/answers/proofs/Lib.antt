@@ -1,6 +1,5 @@
-pub mod PutLaws
-pub mod TextLaws
+-- Laws of the tables of words, and of how long an answer line may be.
+-- Assumes nothing.
 pub mod TableLaws
-pub mod ReadBack
 pub mod AnswerLaws
 pub mod LengthLaws

@@ -8,13 +8,13 @@ use native.Mathlib.Numerals.{sub-one}
 use native.Mathlib.Omega.{arith}
 use lib.Dec.{eqb}
 use lib.ListN.{length, take, drop, getD}
-use Rattle.notation.specs.declared.Expected.{Expected}
-use Rattle.notation.specs.declared.Expected.the-variants as Ex
-use Rattle.notation.specs.Words.{run, InFront}
+use Rattle.words.specs.declared.Expected.{Expected}
+use Rattle.words.specs.declared.Expected.the-variants as Ex
+use Rattle.words.specs.Words.{run, InFront}
 use Rattle.answers.specs.Tables.{Row, textOf, entryOf, PutFrom}
-use Rattle.answers.specs.Texts.{Put}
+use Rattle.texts.specs.Texts.{Put}
 use Rattle.answers.specs.Answers.{expectedText, expectedPlace}
-use Rattle.notation.proofs.RunLaws.{run-within}
+use Rattle.words.proofs.RunLaws.{run-within}
 
 -- ---- an entry of a text
 

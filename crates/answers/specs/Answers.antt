@@ -8,12 +8,12 @@ use lib.ListN.{take}
 use lib.IntN.{ℤ}
 use Rattle.profile.specs.declared.Home.{Home}
 use Rattle.profile.specs.Entries.{homeOf, atWindow}
-use Rattle.notation.specs.declared.Expected.{Expected}
-use Rattle.notation.specs.declared.Expected.the-variants as Ex
-use Rattle.notation.specs.Ascii.{ascii}
-use Rattle.notation.specs.Words.{wordsOf}
+use Rattle.words.specs.declared.Expected.{Expected}
+use Rattle.words.specs.declared.Expected.the-variants as Ex
+use Rattle.words.specs.Ascii.{ascii}
+use Rattle.words.specs.Words.{wordsOf}
 use Rattle.answers.specs.Tables.{Row, _is_, textOf}
-use Rattle.answers.specs.Texts.{longHexText, decimalText, bytesText, numbersText, wordsText, placesText}
+use Rattle.texts.specs.Texts.{longHexText, decimalText, bytesText, numbersText, wordsText, placesText}
 
 abbrev pub newline : List ℕ
 newline = 10 ∷ []

@@ -1,3 +1,4 @@
-pub mod Texts
+-- The answer lines, to the letter.
+-- Assumes nothing.
 pub mod Tables
 pub mod Answers

@@ -6,9 +6,9 @@ use Prim.Native.Nat.{ℕ, zero, suc}
 use Prim.Native.String.{String}
 use lib.Dec.{eqb}
 use lib.ListN.{take, drop}
-use Rattle.notation.specs.Ascii.{ascii}
-use Rattle.notation.specs.Words.{run}
-use Rattle.answers.specs.Texts.{Put}
+use Rattle.words.specs.Ascii.{ascii}
+use Rattle.words.specs.Words.{run}
+use Rattle.texts.specs.Texts.{Put}
 
 pub record Row : Type 0 where
   pub number : ℕ

@@ -2,26 +2,24 @@
 use crate::tables::put_attribute;
 use crate::tables::put_expected;
 use crate::tables::put_meaning;
-use crate::text::put;
-use crate::text::put_all;
-use crate::text::put_bytes;
-use crate::text::put_decimal;
-use crate::text::put_each_word;
-use crate::text::put_long_hex;
-use crate::text::put_numbers;
-use crate::text::put_places;
 ghost use Rattle.profile.specs.Entries.{homeOf};
-ghost use Rattle.answers.specs.Texts.{Put};
+ghost use Rattle.texts.specs.Texts.{Put};
 ghost use Rattle.answers.specs.Answers.{numberText, endText, linesText, entryText};
 ghost use Rattle.answers.specs.Answers.{plainLine, writeLine, readLine, sampleLine, driveLine, unknownLine};
 ghost use Rattle.answers.specs.Answers.{unmetLine, totalsText, judgedText};
 use dictionary::entries::find;
-use notation::Expected;
-use notation::items::first_bytes;
 use profile::Home;
+use texts::text::put;
+use texts::text::put_all;
+use texts::text::put_bytes;
+use texts::text::put_decimal;
+use texts::text::put_each_word;
+use texts::text::put_long_hex;
+use texts::text::put_numbers;
+use texts::text::put_places;
+use words::Expected;
+use words::items::first_bytes;
 
-// Bytes put into a lent buffer.
-pub mod text;
 // Words from tables.
 pub mod tables;
 

@@ -1,9 +1,8 @@
 // Words for a number or for what was expected, from tables: a text with `;` between its entries.
-use crate::text::put_all;
 ghost use mathlib.Core.Path.{_≡_};
 ghost use mathlib.Core.Bool.{false};
-ghost use Rattle.notation.specs.Words.{InFront};
-ghost use Rattle.answers.specs.Texts.{Put};
+ghost use Rattle.words.specs.Words.{InFront};
+ghost use Rattle.texts.specs.Texts.{Put};
 ghost use Rattle.answers.specs.Tables.{PutFrom, entryOf};
 ghost use Rattle.answers.specs.Answers.{refusalText, attributeText, expectedText, expectedPlace};
 use dictionary::refusals::NO_OBJECT;
@@ -15,11 +14,12 @@ use dictionary::refusals::TOO_HIGH;
 use dictionary::refusals::TOO_LONG;
 use dictionary::refusals::TOO_LOW;
 use dictionary::refusals::TOO_SHORT;
-use notation::Expected;
-use notation::words::back;
-use notation::words::front;
-use notation::words::until;
-use notation::words::without_first;
+use texts::text::put_all;
+use words::Expected;
+use words::split::back;
+use words::split::front;
+use words::split::until;
+use words::split::without_first;
 
 // An attribute of the digital lines.
 pub fn put_attribute(out: &mut [u8], at: usize, row: usize) -> usize

@@ -9,14 +9,14 @@ use lib.Dec.{ltb}
 use lib.ListN.{length, take, drop}
 use borrow.Author.Tests.{lt-ltb, le-ltb}
 use Rattle.profile.specs.Calls as Doc
-use Rattle.notation.specs.declared.Expected.the-variants as Ex
-use Rattle.notation.specs.Ascii.{ascii}
-use Rattle.notation.specs.Words.{run, wordsOf, firstWord, afterWord, isBlank, isWord, contentOf, InFront}
-use Rattle.notation.specs.Numbers.{shortNumber}
-use Rattle.notation.specs.Items.{byteItem, itemsOf}
+use Rattle.words.specs.declared.Expected.the-variants as Ex
+use Rattle.words.specs.Ascii.{ascii}
+use Rattle.words.specs.Words.{run, wordsOf, firstWord, afterWord, isBlank, isWord, contentOf, InFront}
+use Rattle.words.specs.Numbers.{shortNumber}
+use Rattle.words.specs.Items.{byteItem, itemsOf}
 use Rattle.notation.specs.Meanings.{Meaning, indexOf, subIndexOf, accessMeaning, entryMeaning, writeMeaning, wordsMeaning, meaningOf}
 use Rattle.notation.specs.Meanings.Meaning.{nothing, unknown, call}
-use Rattle.notation.proofs.SplitLaws.{words-none, words-more}
+use Rattle.words.proofs.SplitLaws.{words-none, words-more}
 use Rattle.notation.proofs.MeaningLaws.{yes, no, blank, not-blank}
 
 pub sub-none : (part : List ℕ) → length part ≡ 0 → 0 ≡ subIndexOf part

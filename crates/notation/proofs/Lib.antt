@@ -1,8 +1,4 @@
-pub mod RunLaws
-pub mod WordLaws
-pub mod SplitLaws
-pub mod ExpectationLaws
-pub mod NumberLaws
-pub mod ItemLaws
+-- Laws of what a line means, by what the reader finds of it.
+-- Assumes nothing.
 pub mod MeaningLaws
 pub mod AccessLaws

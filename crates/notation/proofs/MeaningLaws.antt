@@ -11,17 +11,17 @@ use borrow.Author.Tests.{lt-ltb, le-ltb, eqb-true, eqb-false}
 use Rattle.profile.specs.declared.Cause.{Cause}
 use Rattle.profile.specs.declared.Cause.the-variants.{Internal, Lost}
 use Rattle.profile.specs.Calls as Doc
-use Rattle.notation.specs.declared.Expected.the-variants as Ex
+use Rattle.words.specs.declared.Expected.the-variants as Ex
 use Rattle.notation.specs.declared.Call.{Call}
-use Rattle.notation.specs.Ascii.{ascii}
-use Rattle.notation.specs.Words.{wordsOf, firstWord, afterWord, isBlank, firstOf, othersOf, isWord}
-use Rattle.notation.specs.Numbers.{numberOf}
-use Rattle.notation.specs.Items.{byteItem, itemsOf}
+use Rattle.words.specs.Ascii.{ascii}
+use Rattle.words.specs.Words.{wordsOf, firstWord, afterWord, isBlank, firstOf, othersOf, isWord}
+use Rattle.words.specs.Numbers.{numberOf}
+use Rattle.words.specs.Items.{byteItem, itemsOf}
 use Rattle.notation.specs.Meanings.{Meaning, small, atEnd, createMeaning, commandMeaning, namedMeaning, causeMeaning, faultMeaning}
 use Rattle.notation.specs.Meanings.{linesMeaning, driveMeaning}
 use Rattle.notation.specs.Meanings.Meaning.{unknown, create, call}
 use Rattle.notation.specs.Promises.{Says}
-use Rattle.notation.proofs.SplitLaws.{words-none, words-more, first-of, others-of}
+use Rattle.words.proofs.SplitLaws.{words-none, words-more, first-of, others-of}
 
 pub yes : {A : Type 0} (t : Bool) (a b : A) → t ≡ true → cond t a b ≡ a
 yes t a b e = ap (λ (x : Bool). cond x a b) e

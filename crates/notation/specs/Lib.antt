@@ -1,7 +1,4 @@
-pub mod Ascii
-pub mod Words
-pub mod Numbers
-pub mod Items
-pub mod Expectations
+-- Which line is which call, and what the reader of a line promises.
+-- Assumes nothing.
 pub mod Meanings
 pub mod Promises

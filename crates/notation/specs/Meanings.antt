@@ -9,13 +9,13 @@ use lib.IntN.{ℤ, pos}
 use Rattle.profile.specs.declared.Cause.{Cause}
 use Rattle.profile.specs.declared.Cause.the-variants.{Internal, Lost}
 use Rattle.profile.specs.Calls as Doc
-use Rattle.notation.specs.declared.Expected.{Expected}
-use Rattle.notation.specs.declared.Expected.the-variants as Ex
-use Rattle.notation.specs.Ascii.{ascii}
-use Rattle.notation.specs.Words.{run, wordsOf, firstOf, othersOf, isWord, contentOf}
-use Rattle.notation.specs.Numbers.{numberOf, shortNumber}
-use Rattle.notation.specs.Items.{Found, byteItem, numberItem, itemsOf}
-use Rattle.notation.specs.Items.Found.{items, missing}
+use Rattle.words.specs.declared.Expected.{Expected}
+use Rattle.words.specs.declared.Expected.the-variants as Ex
+use Rattle.words.specs.Ascii.{ascii}
+use Rattle.words.specs.Words.{run, wordsOf, firstOf, othersOf, isWord, contentOf}
+use Rattle.words.specs.Numbers.{numberOf, shortNumber}
+use Rattle.words.specs.Items.{Found, byteItem, numberItem, itemsOf}
+use Rattle.words.specs.Items.Found.{items, missing}
 
 -- what a line says: nothing; no call, and what should have stood there; a create; or one of document 01's other calls
 pub data Meaning : Type 0 where

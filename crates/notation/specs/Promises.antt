@@ -8,7 +8,7 @@ use lib.IntN.{ℤ}
 use Rattle.profile.specs.Calls as Doc
 use Rattle.notation.specs.declared.Call.{Call}
 use Rattle.notation.specs.declared.Call.the-variants.{Nothing, Unknown, Create, Read, Write, Sample, Command, Raise, Clear, Drive}
-use Rattle.notation.specs.Items.{Found}
+use Rattle.words.specs.Items.{Found}
 use Rattle.notation.specs.Meanings.{Meaning, analogueMeaning, channelsMeaning}
 use Rattle.notation.specs.Meanings.Meaning.{nothing, unknown, create, call}
 

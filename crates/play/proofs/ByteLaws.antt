@@ -10,9 +10,9 @@ use lib.Dec.{eqb, ltb}
 use lib.ListN.{length, take, drop, set, length-append, length-take}
 use lib.Seq.{sets}
 use borrow.Author.Tests.{eq-eqb, ne-eqb, lt-ltb, le-ltb, ltb-true}
-use Rattle.answers.specs.Texts.{Put}
-use Rattle.notation.specs.Words.{isWord}
-use Rattle.notation.proofs.SplitLaws.{same-word}
+use Rattle.texts.specs.Texts.{Put}
+use Rattle.words.specs.Words.{isWord}
+use Rattle.words.proofs.SplitLaws.{same-word}
 use Rattle.play.specs.declared.session.Session.{Session}
 use Rattle.play.specs.Playing.{withoutMark, lineOf}
 use Rattle.play.specs.Sessions.{counted, full, beside, Answered, emptied, WrittenOut, heldLine, LinePlayed, plainByte, heldMore, longer}

@@ -13,11 +13,11 @@ use borrow.Author.Tests.{eq-eqb, ne-eqb, lt-ltb, le-ltb, leb-true}
 use Rattle.profile.specs.Outcome.{Same}
 use Rattle.device.specs.declared.Device.{Device}
 use Rattle.device.specs.View.{machinesOf}
-use Rattle.answers.specs.Texts.{Put}
+use Rattle.texts.specs.Texts.{Put}
 use Rattle.answers.specs.Answers.{unmetLine}
 use Rattle.answers.proofs.LengthLaws.{unmet-short}
-use Rattle.notation.specs.declared.Expected.the-variants as Ex
-use Rattle.notation.specs.Expectations.{isExpectation, expectedOf, isAsExpected}
+use Rattle.words.specs.declared.Expected.the-variants as Ex
+use Rattle.words.specs.Expectations.{isExpectation, expectedOf, isAsExpected}
 use Rattle.notation.specs.Meanings.{Meaning, meaningOf}
 use Rattle.notation.specs.Meanings.Meaning.{unknown}
 use Rattle.play.specs.declared.session.Session.{Session}

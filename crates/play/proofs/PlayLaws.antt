@@ -18,7 +18,7 @@ use Rattle.device.specs.declared.Device.{Device}
 use Rattle.device.specs.declared.Created.{Created}
 use Rattle.device.specs.View.{machinesOf}
 use Rattle.device.specs.Promises.{CreatedAs, Ensured}
-use Rattle.answers.specs.Texts.{Put}
+use Rattle.texts.specs.Texts.{Put}
 use Rattle.answers.specs.Answers.{plainLine}
 use Rattle.notation.specs.declared.Call.{Call as Said}
 use Rattle.answers.proofs.LengthLaws.{plain-short}

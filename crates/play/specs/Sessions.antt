@@ -11,7 +11,7 @@ use Rattle.profile.specs.Replies.{freshMachines}
 use Rattle.profile.specs.Outcome.{Same}
 use Rattle.device.specs.declared.Device.{Device}
 use Rattle.device.specs.View.{machinesOf}
-use Rattle.answers.specs.Texts.{Put}
+use Rattle.texts.specs.Texts.{Put}
 use Rattle.notation.specs.Meanings.{Meaning}
 use Rattle.play.specs.declared.session.Session.{Session}
 use Rattle.play.specs.Playing.{answerFor, machinesFor, isCall, isRefused, isUnknown, Line, withoutMark, lineOf, lineAnswer, newer}

@@ -1,16 +1,16 @@
 // What one line of a list gets: a call's answer, or the comparison of an expected answer with the last one.
 use crate::session::Session;
 use answers::put_unmet;
-use answers::text::put_all;
 use check::same;
-use notation::Expected;
-use notation::expectations::expected;
-use notation::expectations::is_as_expected;
-use notation::expectations::is_expectation;
-use notation::items::first_bytes;
-use notation::words::back;
-use notation::words::front;
 use std::num::wrapping_add_u64;
+use texts::text::put_all;
+use words::Expected;
+use words::expectations::expected;
+use words::expectations::is_as_expected;
+use words::expectations::is_expectation;
+use words::items::first_bytes;
+use words::split::back;
+use words::split::front;
 ghost use mathlib.Core.Path.{_≡_};
 ghost use Prim.Native.Nat.{_+_, _≤_};
 ghost use lib.ListN.{length};

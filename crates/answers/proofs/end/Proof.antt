@@ -1,8 +1,8 @@
 -- `answers::end` meets its contract.
 -- Assumes nothing.
-use Rattle.notation.specs.Ascii.{ascii}
+use Rattle.words.specs.Ascii.{ascii}
 use Rattle.answers.specs.Answers.{newline, endText}
-use Rattle.answers.proofs.PutLaws.{put-then, put-two}
+use Rattle.texts.proofs.PutLaws.{put-then, put-two}
 use borrow.Author.Tests.{eq-eqb, ne-eqb}
 use borrow.Author.Needs.{needs}
 use Rattle.answers.proofs.end.Statement.{statement}

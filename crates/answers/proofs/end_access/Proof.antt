@@ -8,9 +8,9 @@ use Rattle.profile.specs.declared.Entry.{Entry}
 use Rattle.profile.specs.declared.Home.the-variants.{Window}
 use Rattle.profile.specs.Entries.{entryOf}
 use Rattle.profile.proofs.EntryRanges.{InRange, WindowRange, in-range}
-use Rattle.notation.specs.Ascii.{ascii}
+use Rattle.words.specs.Ascii.{ascii}
 use Rattle.answers.specs.Answers.{newline, entryText}
-use Rattle.answers.proofs.PutLaws.{put-then, put-two}
+use Rattle.texts.proofs.PutLaws.{put-then, put-two}
 use Rattle.answers.proofs.AnswerLaws.{not-window, lines-before}
 use Rattle.answers.proofs.end_access.Statement.{statement}
 use Rattle.answers.proofs.end_access.Tie as tie

@@ -1,7 +1,7 @@
 -- `answers::put_drive` meets its contract.
 -- Assumes nothing.
 use Rattle.answers.specs.Answers.{driveLine}
-use Rattle.answers.proofs.PutLaws.{put-then}
+use Rattle.texts.proofs.PutLaws.{put-then}
 use borrow.Author.Needs.{needs}
 use Rattle.answers.proofs.put_drive.Statement.{statement}
 use Rattle.answers.proofs.put_drive.Tie as tie

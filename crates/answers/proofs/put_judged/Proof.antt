@@ -1,8 +1,8 @@
 -- `answers::put_judged` meets its contract.
 -- Assumes nothing.
-use Rattle.notation.specs.Ascii.{ascii}
+use Rattle.words.specs.Ascii.{ascii}
 use Rattle.answers.specs.Answers.{newline, judgedText}
-use Rattle.answers.proofs.PutLaws.{put-none, put-then, put-two}
+use Rattle.texts.proofs.PutLaws.{put-none, put-then, put-two}
 use borrow.Author.Needs.{needs}
 use Rattle.answers.proofs.put_judged.Statement.{statement}
 use Rattle.answers.proofs.put_judged.Tie as tie

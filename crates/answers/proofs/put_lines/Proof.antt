@@ -1,7 +1,7 @@
 -- `answers::put_lines` meets its contract.
 -- Assumes nothing.
 use Rattle.answers.specs.Answers.{linesText}
-use Rattle.answers.proofs.PutLaws.{put-then}
+use Rattle.texts.proofs.PutLaws.{put-then}
 use borrow.Author.Tests.{eq-eqb, ne-eqb}
 use borrow.Author.Needs.{needs}
 use Rattle.answers.proofs.put_lines.Statement.{statement}

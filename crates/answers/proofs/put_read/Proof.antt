@@ -1,7 +1,7 @@
 -- `answers::put_read` meets its contract.
 -- Assumes nothing.
 use Rattle.answers.specs.Answers.{readLine}
-use Rattle.answers.proofs.PutLaws.{put-then}
+use Rattle.texts.proofs.PutLaws.{put-then}
 use borrow.Author.Tests.{eq-eqb, ne-eqb}
 use borrow.Author.Needs.{needs}
 use Rattle.answers.proofs.put_read.Statement.{statement}

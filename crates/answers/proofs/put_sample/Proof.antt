@@ -1,7 +1,7 @@
 -- `answers::put_sample` meets its contract.
 -- Assumes nothing.
 use Rattle.answers.specs.Answers.{sampleLine}
-use Rattle.answers.proofs.PutLaws.{put-then}
+use Rattle.texts.proofs.PutLaws.{put-then}
 use borrow.Author.Needs.{needs}
 use Rattle.answers.proofs.put_sample.Statement.{statement}
 use Rattle.answers.proofs.put_sample.Tie as tie

@@ -1,8 +1,8 @@
 -- `answers::put_totals` meets its contract.
 -- Assumes nothing.
-use Rattle.notation.specs.Ascii.{ascii}
+use Rattle.words.specs.Ascii.{ascii}
 use Rattle.answers.specs.Answers.{newline, totalsText}
-use Rattle.answers.proofs.PutLaws.{put-then, put-two}
+use Rattle.texts.proofs.PutLaws.{put-then, put-two}
 use borrow.Author.Needs.{needs}
 use Rattle.answers.proofs.put_totals.Statement.{statement}
 use Rattle.answers.proofs.put_totals.Tie as tie

@@ -1,7 +1,7 @@
 -- `answers::put_unknown` meets its contract.
 -- Assumes nothing.
 use Rattle.answers.specs.Answers.{unknownLine}
-use Rattle.answers.proofs.PutLaws.{put-then}
+use Rattle.texts.proofs.PutLaws.{put-then}
 use borrow.Author.Needs.{needs}
 use Rattle.answers.proofs.put_unknown.Statement.{statement}
 use Rattle.answers.proofs.put_unknown.Tie as tie

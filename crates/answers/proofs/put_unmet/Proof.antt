@@ -1,7 +1,7 @@
 -- `answers::put_unmet` meets its contract.
 -- Assumes nothing.
 use Rattle.answers.specs.Answers.{unmetLine}
-use Rattle.answers.proofs.PutLaws.{put-then}
+use Rattle.texts.proofs.PutLaws.{put-then}
 use borrow.Author.Needs.{needs}
 use Rattle.answers.proofs.put_unmet.Statement.{statement}
 use Rattle.answers.proofs.put_unmet.Tie as tie

@@ -9,10 +9,10 @@ use Rattle.answers.proofs.TableLaws.{entry-first, entry-later}
 use Rattle.answers.proofs.tables.entry.Reads as entry
 use Rattle.answers.proofs.tables.entry.Kinds as entry-kinds
 use Rattle.answers.proofs.tables.+entry.Lts-entry as lts
-use Rattle.notation.proofs.words.back.Reads as back
-use Rattle.notation.proofs.words.front.Reads as front
-use Rattle.notation.proofs.words.until.Reads as until
-use Rattle.notation.proofs.words.without_first.Reads as without-first
+use Rattle.words.proofs.split.back.Reads as back
+use Rattle.words.proofs.split.front.Reads as front
+use Rattle.words.proofs.split.until.Reads as until
+use Rattle.words.proofs.split.without_first.Reads as without-first
 use Rattle.answers.proofs.tables.+entry.{statement}
 use Rattle.answers.proofs.tables.+entry.Tie.{close}
 

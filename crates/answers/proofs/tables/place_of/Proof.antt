@@ -8,8 +8,8 @@ use lib.ListN.{length, drop}
 use denote.Ref.{now}
 use borrow.Author.Needs.{needs}
 use borrow.Author.Tests.{eqb-false, ne-eqb}
-use Rattle.notation.specs.Words.{run}
-use Rattle.notation.proofs.RunLaws.{run-more, run-stops, run-ends}
+use Rattle.words.specs.Words.{run}
+use Rattle.words.proofs.RunLaws.{run-more, run-stops, run-ends}
 use Rattle.answers.proofs.tables.place_of.Statement.{statement}
 use Rattle.answers.proofs.tables.place_of.Tie as tie
 

@@ -2,7 +2,7 @@
 -- Assumes nothing.
 use mathlib.Core.Path.{refl}
 use borrow.Author.Needs.{needs}
-use Rattle.notation.specs.Ascii.{ascii}
+use Rattle.words.specs.Ascii.{ascii}
 use Rattle.answers.specs.Answers.{refusals, refusalText}
 use Rattle.answers.proofs.TableLaws.{table-put}
 use Rattle.answers.proofs.tables.put_meaning.Statement.{statement}

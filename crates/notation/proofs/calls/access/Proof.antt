@@ -1,7 +1,7 @@
 -- `calls::access` meets its contract.
 -- Assumes nothing.
-use Rattle.notation.specs.Ascii.{ascii}
-use Rattle.notation.proofs.SplitLaws.{same-word}
+use Rattle.words.specs.Ascii.{ascii}
+use Rattle.words.proofs.SplitLaws.{same-word}
 use Rattle.notation.proofs.MeaningLaws.{says-as}
 use Rattle.notation.proofs.AccessLaws.{access-call, access-byte, access-read, access-data, access-write}
 use borrow.Author.Tests.{not-true, not-false}

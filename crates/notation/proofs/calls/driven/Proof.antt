@@ -1,9 +1,9 @@
 -- `calls::driven` meets its contract.
 -- Assumes nothing.
-use Rattle.notation.specs.declared.items.Items.{Items}
-use Rattle.notation.specs.Items.{ReadInto, numberItem}
+use Rattle.words.specs.declared.items.Items.{Items}
+use Rattle.words.specs.Items.{ReadInto, numberItem}
 use Rattle.notation.specs.Meanings.{channelsMeaning}
-use Rattle.notation.proofs.ItemLaws.{read-found, read-missing, found-end, found-more}
+use Rattle.words.proofs.ItemLaws.{read-found, read-missing, found-end, found-more}
 use Rattle.notation.proofs.MeaningLaws.{blank, not-blank}
 use native.Mathlib.Omega.{arith}
 use mathlib.Core.Path.{subst, sym, ap}

@@ -1,8 +1,8 @@
 -- `calls::fault` meets its contract.
 -- Assumes nothing.
 use Rattle.profile.specs.Calls as Doc
-use Rattle.notation.specs.Ascii.{ascii}
-use Rattle.notation.proofs.SplitLaws.{same-word}
+use Rattle.words.specs.Ascii.{ascii}
+use Rattle.words.proofs.SplitLaws.{same-word}
 use Rattle.notation.proofs.MeaningLaws.{says-as, fault-more, fault-internal, fault-lost, fault-none}
 use borrow.Author.Tests.{not-true, not-false}
 use mathlib.Core.Bool.{cond}

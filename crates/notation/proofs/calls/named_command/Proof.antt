@@ -1,10 +1,10 @@
 -- `calls::named_command` meets its contract.
 -- Assumes nothing.
-use Rattle.notation.specs.Ascii.{ascii}
-use Rattle.notation.specs.Words.{wordsOf, isWord}
+use Rattle.words.specs.Ascii.{ascii}
+use Rattle.words.specs.Words.{wordsOf, isWord}
 use Rattle.notation.specs.Meanings.{namedMeaning, namedCommand}
 use Rattle.notation.specs.Promises.{SaysPlain}
-use Rattle.notation.proofs.SplitLaws.{same-word}
+use Rattle.words.proofs.SplitLaws.{same-word}
 use Rattle.notation.proofs.MeaningLaws.{yes, no, says-as}
 use denote.Ref.{now}
 use Prim.Native.Nat.{_-_}

@@ -1,9 +1,9 @@
 -- `calls::plain_call` meets its contract.
 -- Assumes nothing.
-use Rattle.notation.specs.Ascii.{ascii}
-use Rattle.notation.specs.Words.{isWord}
+use Rattle.words.specs.Ascii.{ascii}
+use Rattle.words.specs.Words.{isWord}
 use Rattle.notation.specs.Meanings.{plainMeaning}
-use Rattle.notation.proofs.SplitLaws.{same-word}
+use Rattle.words.proofs.SplitLaws.{same-word}
 use Rattle.notation.proofs.MeaningLaws.{yes, no, says-as}
 use denote.Ref.{now}
 use Prim.Native.Nat.{_-_}

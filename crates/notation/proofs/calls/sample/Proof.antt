@@ -1,16 +1,16 @@
 -- `calls::sample` meets its contract.
 -- Assumes nothing.
-use Rattle.notation.specs.declared.items.Items.{Items}
-use Rattle.notation.specs.Items.{ReadInto, byteItem, numberItem, itemsOf}
+use Rattle.words.specs.declared.items.Items.{Items}
+use Rattle.words.specs.Items.{ReadInto, byteItem, numberItem, itemsOf}
 use Rattle.notation.specs.Meanings.{sampleMeaning, analogueMeaning}
-use Rattle.notation.proofs.ItemLaws.{read-found, read-missing, found-end, found-more}
+use Rattle.words.proofs.ItemLaws.{read-found, read-missing, found-end, found-more}
 use Rattle.notation.proofs.MeaningLaws.{blank, not-blank, says-as}
 use native.Mathlib.Omega.{arith}
 use mathlib.Core.List.{List}
 use mathlib.Core.Path.{subst, sym, ap, _∙_}
 use lib.ListN.{take}
 use Prim.Native.Nat.{ℕ, _-_}
-use Rattle.notation.specs.Words.{wordsOf}
+use Rattle.words.specs.Words.{wordsOf}
 use denote.Ref.{now}
 use borrow.Author.Needs.{needs}
 use Rattle.notation.proofs.calls.sample.Statement.{statement}

@@ -1,9 +1,9 @@
 -- `calls::sampled` meets its contract.
 -- Assumes nothing.
-use Rattle.notation.specs.declared.items.Items.{Items}
-use Rattle.notation.specs.Items.{ReadInto, byteItem, numberItem, itemsOf}
+use Rattle.words.specs.declared.items.Items.{Items}
+use Rattle.words.specs.Items.{ReadInto, byteItem, numberItem, itemsOf}
 use Rattle.notation.specs.Meanings.{analogueMeaning, eventsMeaning}
-use Rattle.notation.proofs.ItemLaws.{read-found, read-missing, found-end, found-more}
+use Rattle.words.proofs.ItemLaws.{read-found, read-missing, found-end, found-more}
 use Rattle.notation.proofs.MeaningLaws.{blank, not-blank}
 use native.Mathlib.Omega.{arith}
 use mathlib.Core.List.{List}
@@ -12,7 +12,7 @@ use lib.ListN.{take}
 use borrow.Author.Tests.{not-true, not-false}
 use Prim.Native.Nat.{ℕ, _-_}
 use Rattle.profile.specs.Calls as Doc
-use Rattle.notation.specs.Words.{wordsOf}
+use Rattle.words.specs.Words.{wordsOf}
 use Rattle.notation.specs.Meanings.Meaning.{call}
 use denote.Ref.{now}
 use borrow.Author.Needs.{needs}

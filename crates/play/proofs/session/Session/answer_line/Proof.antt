@@ -4,7 +4,7 @@ use mathlib.Core.Path.{ap}
 use native.Mathlib.Omega.{arith}
 use lib.ListN.{length}
 use denote.Ref.{now}
-use Rattle.notation.proofs.ExpectationLaws.{expected-short}
+use Rattle.words.proofs.ExpectationLaws.{expected-short}
 use Rattle.play.proofs.LineLaws.{answered-call, short-enough, line-expects, line-says}
 use borrow.Author.Needs.{needs}
 use Rattle.play.proofs.session.Session.answer_line.Statement.{statement}

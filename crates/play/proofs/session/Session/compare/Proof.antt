@@ -5,7 +5,7 @@ use mathlib.Core.List.{List}
 use Prim.Native.Nat.{ℕ}
 use lib.ListN.{length}
 use denote.Ref.{now}
-use Rattle.notation.specs.Expectations.{isAsExpected}
+use Rattle.words.specs.Expectations.{isAsExpected}
 use Rattle.play.proofs.LineLaws.{compared-first, compared-met, compared-unmet}
 use borrow.Author.Needs.{needs}
 use Rattle.play.proofs.session.Session.compare.Statement.{statement}

@@ -1,0 +1,3 @@
+-- Numbers, bytes and words as text.
+-- Assumes nothing.
+pub mod Texts
