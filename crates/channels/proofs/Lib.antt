@@ -4,10 +4,5 @@ pub mod TestLaws
 pub mod SignedLaws
 pub mod TwosComplement
 pub mod ByteLaws
-pub mod MeetsLaws
-pub mod Mapped
 pub mod Sweeps
 pub mod StoreLaws
-pub mod SourceLaws
-pub mod Gathered
-pub mod WriteLaws

@@ -76,7 +76,7 @@ fn input_with(
 }
 
 // What a write can change of an input.
-pub(crate) fn set_settings(
+pub fn set_settings(
     octets: &mut [u8; 21],
     limits: &mut [i32; 32],
     deltas: &mut [u32; 48],
@@ -99,7 +99,7 @@ pub(crate) fn set_settings(
 }
 
 // What a sample can change of an input, but for its source bit.
-pub(crate) fn set_sample(values: &mut [i16; 56], n: usize, new: AnalogueInput)
+pub fn set_sample(values: &mut [i16; 56], n: usize, new: AnalogueInput)
     requires { ⌜ n < 16 ⌝ }
     ensures { λ _. ⌜ now (values .exit) ≡ samplesSet (now (values .entry)) n new ⌝ }
 {
@@ -119,7 +119,7 @@ fn source_at(octets: &[u8; 21], n: usize) -> bool
 }
 
 // The source bits of all channels, bit n for channel n.
-pub(crate) fn sources_at(octets: &[u8; 21]) -> u32
+pub fn sources_at(octets: &[u8; 21]) -> u32
     ensures { λ r. ⌜ (r ≡ sourcesOf (now (octets .entry))) × (r < 65536) ⌝ }
 {
     let low = octets[SOURCES_LOW];
@@ -153,12 +153,7 @@ pub fn output_at(flags: &[bool; 12], values: &[i16; 56], n: usize) -> AnalogueOu
     }
 }
 
-pub(crate) fn set_output(
-    flags: &mut [bool; 12],
-    values: &mut [i16; 56],
-    n: usize,
-    new: AnalogueOutput,
-)
+pub fn set_output(flags: &mut [bool; 12], values: &mut [i16; 56], n: usize, new: AnalogueOutput)
     requires { ⌜ n < 8 ⌝ }
     ensures { λ _. ⌜ (now (flags .exit) ≡ modeSet (now (flags .entry)) n new) ×
         (now (values .exit) ≡ outputSet (now (values .entry)) n new) ⌝ }
@@ -172,14 +167,14 @@ pub(crate) fn set_output(
     values[DRIVEN + n] = driven;
 }
 
-pub(crate) fn driven_at(values: &[i16; 56], n: usize) -> i16
+pub fn driven_at(values: &[i16; 56], n: usize) -> i16
     requires { ⌜ n < 8 ⌝ }
     ensures { λ r. ⌜ r ≡ drivenOf (now (values .entry)) n ⌝ }
 {
     values[DRIVEN + n]
 }
 
-pub(crate) fn set_driven(values: &mut [i16; 56], n: usize, driven: i16)
+pub fn set_driven(values: &mut [i16; 56], n: usize, driven: i16)
     requires { ⌜ n < 8 ⌝ }
     ensures { λ _. ⌜ now (values .exit) ≡ set (now (values .entry)) (48 + n) driven ⌝ }
 {

@@ -1,5 +1,5 @@
 // create, command, raise and clear, in place.
-use channels::outputs::move_all;
+use analogue_outputs::move_all;
 use dictionary::refusals::command_refusal;
 use dictionary::refusals::create_refusal;
 use lines::machines::move_outputs;

@@ -1,13 +1,11 @@
 // read and write, in place.
+use analogue_inputs::clear_sources;
+use analogue_inputs::read_input;
+use analogue_inputs::read_sources;
+use analogue_outputs::read_output;
 use channels::fields::input_at;
 use channels::fields::output_at;
-use channels::inputs;
-use channels::inputs::clear_sources;
-use channels::inputs::read_input;
-use channels::inputs::read_sources;
 use channels::numbers::number;
-use channels::outputs;
-use channels::outputs::read_output;
 use dictionary::entries::find;
 use dictionary::refusals::access_refusal;
 use dictionary::refusals::entry_refusal;
@@ -184,10 +182,10 @@ fn after_write(
             machines::write(words, row, width, sub, value, in_fault(was));
         }
         Home::InputChannel(index, n) => {
-            inputs::write_at(octets, limits, deltas, values, n, index, value);
+            analogue_inputs::write_at(octets, limits, deltas, values, n, index, value);
         }
         Home::OutputChannel(index, n) => {
-            outputs::write_at(flags, values, n, index, value, in_fault(was));
+            analogue_outputs::write_at(flags, values, n, index, value, in_fault(was));
         }
         Home::Sources => {}
         Home::Device(index) => {

@@ -1,6 +1,5 @@
 // sample and drive, in place.
-use channels::inputs::sample_all;
-use channels::outputs;
+use analogue_inputs::sample_all;
 use dictionary::refusals::drive_refusal;
 use dictionary::refusals::sample_refusal;
 use lines::Row;
@@ -67,7 +66,7 @@ pub fn drive(words: &[u64; 28], values: &[i16; 56], lines: &mut [u8], channels: 
     let refused = drive_refusal(lines.len(), channels.len());
     if refused == 0 {
         machines::drive(words, lines);
-        outputs::drive(values, channels);
+        analogue_outputs::drive(values, channels);
     }
     refused
 }

@@ -19,7 +19,8 @@ use Rattle.profile.proofs.EntryRanges.{WindowRange, InRange, in-range}
 use Rattle.profile.proofs.RefusalLaws.{AccessPassed, access-passed, ValuePassed, value-passed}
 use Rattle.lines.specs.Promises.{Covers}
 use Rattle.channels.specs.Numbers.{NumberOf}
-use Rattle.channels.proofs.WriteLaws.{input-fits, output-writable}
+use Rattle.analogue_inputs.proofs.WriteLaws.{input-fits}
+use Rattle.analogue_outputs.proofs.WriteLaws.{output-writable}
 use Rattle.store.specs.Promises.{Readable, Writable}
 
 covers : {e : Entry} {row w s : ℕ} → WindowRange e row w s → Covers row w s

@@ -30,7 +30,8 @@ use Rattle.profile.proofs.Home.{the-type}
 use Rattle.profile.specs.Outcome.{Same}
 use Rattle.lines.specs.View.{rowAt, inputAt, outputAt}
 use Rattle.lines.specs.Promises as line
-use Rattle.channels.specs.Promises as channel
+use Rattle.analogue_inputs.specs.Promises as input
+use Rattle.analogue_outputs.specs.Promises as output
 use Rattle.store.specs.View.{Parts, ownOf, machines}
 use Rattle.store.specs.Promises.{moved, wrote, hasRead}
 
@@ -81,7 +82,7 @@ owns-same d r ls is os analogueOutput i h = os i h
 
 -- the node changed, and with it fault: `before` and `after` are what the code found
 pub node-moved : (d r : Parts) (n : Node) (before after : Bool) → before ≡ fault (d .node) → after ≡ fault n → r .node ≡ n
-    → line.Moved before after (d .words) (r .words) → InputsKept d r → channel.AllMoved before after (d .outputs) (r .outputs) → Same
+    → line.Moved before after (d .words) (r .words) → InputsKept d r → output.AllMoved before after (d .outputs) (r .outputs) → Same
     (machines r) (moved n d)
 node-moved d r n before after b a e l is os =
     by-kind (machines r) (moved n d) (same-machine e refl)
@@ -110,7 +111,7 @@ module _ (d r : Parts) (node : r .node ≡ d .node) where
       (λ i h. same-machine node (os i h))
 
 module _ (d r : Parts) (node : r .node ≡ d .node) (lines : r .words ≡ d .words) where
-  pub input-wrote : (index n v : ℕ) → channel.InputWritten index n v (d .inputs) (r .inputs) → OutputsKept d r → Same (machines r)
+  pub input-wrote : (index n v : ℕ) → input.InputWritten index n v (d .inputs) (r .inputs) → OutputsKept d r → Same (machines r)
       (wrote (InputChannel index n) v d)
   input-wrote index n v is os =
       by-kind (machines r) (wrote (InputChannel index n) v d) (same-machine node refl)
@@ -119,7 +120,7 @@ module _ (d r : Parts) (node : r .node ≡ d .node) (lines : r .words ≡ d .wor
       (λ i l. same-machine node (is .channels i l) ∙ choice (eqb i n) (d .node) (writeAnalogueInput index v (d .inputs i)) (d .inputs i))
       (λ i l. same-machine node (os i l))
 
-  pub output-wrote : (index n v : ℕ) → channel.OutputWritten (fault (d .node)) index n v (d .outputs) (r .outputs) → InputsKept d r
+  pub output-wrote : (index n v : ℕ) → output.OutputWritten (fault (d .node)) index n v (d .outputs) (r .outputs) → InputsKept d r
       → Same (machines r) (wrote (OutputChannel index n) v d)
   output-wrote index n v os is =
       by-kind (machines r) (wrote (OutputChannel index n) v d) (same-machine node refl)
@@ -166,7 +167,7 @@ pub read-same : (d : Parts) (e : Home) → readsSources e ≡ false → Same (ma
 read-same d e h = record { at = λ k i l. same-machine refl (ap (λ (b : Bool). cond b (clearOwn k (ownOf d k i)) (ownOf d k i)) (sym h)) }
 
 -- 6422:1 clears the source bits
-pub sources-read : (d r : Parts) (sources : ℕ) → r .node ≡ d .node → r .words ≡ d .words → channel.SourcesTaken (d .inputs) sources
+pub sources-read : (d r : Parts) (sources : ℕ) → r .node ≡ d .node → r .words ≡ d .words → input.SourcesTaken (d .inputs) sources
     (r .inputs)
     → OutputsKept d r → Same (machines r) (hasRead Sources d)
 sources-read d r sources n ls is os =

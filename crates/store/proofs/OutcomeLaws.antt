@@ -19,8 +19,9 @@ use Rattle.profile.specs.AnalogueInput.{channelEvent}
 use Rattle.lines.specs.declared.Row.{Row}
 use Rattle.lines.specs.View.{rowAt, inputAt}
 use Rattle.lines.specs.Promises as line
-use Rattle.channels.specs.Promises as channel
-use Rattle.channels.specs.Promises.{met}
+use Rattle.analogue_inputs.specs.Promises as input
+use Rattle.analogue_inputs.specs.Promises.{met}
+use Rattle.analogue_outputs.specs.Promises as output
 use Rattle.profile.specs.Nodes.{operational, fault, raiseNode, clearNode, addressed, obeyNode, commandNode}
 use Rattle.profile.specs.Entries.{entryOf, homeOf}
 use Rattle.profile.specs.Calls.{Call, Reply, read, write, sample, command, raise, clear, drive}
@@ -93,7 +94,7 @@ read-outcome d r index sub value size e v z s =
 
 -- the source bits after an accepted read
 module _ (d r : Parts) (e : Home) (node : r .node ≡ d .node) (words : r .words ≡ d .words) (outputs : OutputsKept d r) where
-  pub read-cleared : readsSources e ≡ true → (s : ℕ) → channel.SourcesTaken (d .inputs) s (r .inputs) → Same (machines r) (hasRead e d)
+  pub read-cleared : readsSources e ≡ true → (s : ℕ) → input.SourcesTaken (d .inputs) s (r .inputs) → Same (machines r) (hasRead e d)
   read-cleared h s taken =
       record {
         at = λ k i l.
@@ -217,7 +218,7 @@ pub record Sampling (d r : Parts) (digital : List ℕ) (analogue : List ℤ) (sh
   pub lines : line.Sampled (d .words) row edges (r .words)
   pub gated : (i : ℕ) → rowAt reported i ≡ (operational (d .node) && d .node .digital) && rowAt edges i
   pub stored : shown ≡ bytes 16 (rowAt reported)
-  pub channels : channel.AllSampled (operational (d .node) && d .node .analogue) analogue (d .inputs) events (r .inputs)
+  pub channels : input.AllSampled (operational (d .node) && d .node .analogue) analogue (d .inputs) events (r .inputs)
 
 module _ {d r : Parts} {digital : List ℕ} {analogue : List ℤ} {shown : List ℕ} {n : ℕ} (s : Sampling d r digital analogue shown n) where
   reported-is : (i : ℕ) → i < 128 → rowAt (s .reported) i ≡ lineEvents (machines d) digital i
@@ -251,7 +252,7 @@ module _ {d r : Parts} {digital : List ℕ} {analogue : List ℤ} {shown : List 
       (s .stored ∙ bytes-cong 16 (rowAt (s .reported)) (lineEvents (machines d) digital) reported-is))
 
 pub drive-outcome : (d : Parts) (lines out : List ℕ) (channels numbers : List ℤ) → refusal (conditions (d .node)) (drive lines channels) ≡ 0
-    → line.Driven (d .words) out → channel.Driven (λ n. d .outputs n .driven) numbers
+    → line.Driven (d .words) out → output.Driven (λ n. d .outputs n .driven) numbers
     → Outcome (machines d) (drive lines channels) (driveReply out numbers) (machines d)
 unfolding answer
 drive-outcome d lines out channels numbers e l c =

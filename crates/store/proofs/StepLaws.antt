@@ -22,8 +22,9 @@ use Rattle.profile.specs.Outcome.{Same}
 use Rattle.lines.specs.Promises as line
 use Rattle.lines.proofs.ColumnLaws.{end, _▸_, all-at}
 use Rattle.channels.specs.View.{inputAt, outputAt, sourcesOf}
-use Rattle.channels.specs.Promises.{InputStored, OutputStored}
-use Rattle.channels.proofs.SourceLaws.{sources-taken}
+use Rattle.analogue_inputs.specs.Promises.{InputStored}
+use Rattle.analogue_outputs.specs.Promises.{OutputStored}
+use Rattle.analogue_inputs.proofs.SourceLaws.{sources-taken}
 use Rattle.store.specs.View.{nodeAt, nodeOctets, nodeFlags, Store, partsOf, machinesOf, held}
 use Rattle.store.specs.Promises.{FreshLeft, Stepped, Followed, moved, wrote, hasRead, SourcesRead}
 use Rattle.store.proofs.MachineLaws.{fresh-machines, node-moved, window-wrote, input-wrote, output-wrote, setting-wrote, read-same}

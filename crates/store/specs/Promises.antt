@@ -12,8 +12,9 @@ use Rattle.profile.specs.declared.Home.the-variants as home
 use Rattle.profile.specs.AnalogueInput.{inputSize}
 use Rattle.lines.specs.Promises.{Covers, Moved}
 use Rattle.channels.specs.View.{outputAt}
-use Rattle.channels.specs.Outputs as channel
-use Rattle.channels.specs.Promises.{SourcesStored, OutputsMoved}
+use Rattle.analogue_inputs.specs.Promises.{SourcesStored}
+use Rattle.analogue_outputs.specs.Promises.{OutputsMoved}
+use Rattle.analogue_outputs.specs.Writable as channel
 use Rattle.profile.specs.Nodes.{fault, addressed}
 use Rattle.profile.specs.Refusals.{createRefusal, createdNumber}
 use Rattle.profile.specs.Machines.{entryNames, writeOwn, clearOwn, moveOwn}

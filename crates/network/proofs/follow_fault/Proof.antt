@@ -3,7 +3,7 @@
 use denote.Ref.{now}
 use borrow.Author.Needs.{needs}
 use Rattle.lines.proofs.OutputLaws as line
-use Rattle.channels.proofs.StoreLaws as channel
+use Rattle.analogue_outputs.proofs.StoreLaws as channel
 use Rattle.network.proofs.follow_fault.Statement.{statement}
 use Rattle.network.proofs.follow_fault.Tie as tie
 

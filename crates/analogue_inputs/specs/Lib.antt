@@ -1,0 +1,3 @@
+-- What the functions on analogue inputs promise.
+-- Assumes nothing.
+pub mod Promises
