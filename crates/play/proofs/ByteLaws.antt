@@ -15,7 +15,8 @@ use Rattle.words.specs.Words.{isWord}
 use Rattle.words.proofs.SplitLaws.{same-word}
 use Rattle.play.specs.declared.session.Session.{Session}
 use Rattle.play.specs.Playing.{withoutMark, lineOf}
-use Rattle.play.specs.Sessions.{counted, full, beside, Answered, emptied, WrittenOut, heldLine, LinePlayed, plainByte, heldMore, longer}
+use Rattle.play.specs.Sessions.{counted, full, beside, Answered, emptied, WrittenOut, heldLine, LinePlayed, plainByte, heldMore}
+use Rattle.play.specs.Sessions.{longer}
 use Rattle.play.specs.Sessions.{Took, PlayedLast}
 
 -- ---- the byte order mark
