@@ -19,7 +19,7 @@ use Rattle.words.specs.declared.Expected.{Expected}
 use Rattle.words.specs.declared.Expected.the-variants as Ex
 use Rattle.words.specs.Ascii.{ascii}
 use Rattle.words.specs.Words.{withByte, piecesOf, withoutEmpty, wordsOf}
-use Rattle.answers.specs.Tables.{Row, textOf}
+use Rattle.texts.specs.Tables.{Row, textOf}
 use Rattle.texts.specs.Texts.{hexText, longHexText, placesOf, decimalText, bitsText, eachText, bytesText, numbersText, placeText}
 use Rattle.texts.specs.Texts.{wordsText, placesFrom, placesText}
 use Rattle.answers.specs.Answers.{newline, inParentheses, numberText, refusals, refusalText, endText, attributes, linesText}

@@ -1,5 +1,5 @@
--- Laws of the tables of words, and of how long an answer line may be.
+-- Laws of what was expected in a line, and of how long an answer line may be.
 -- Assumes nothing.
-pub mod TableLaws
+pub mod ExpectedLaws
 pub mod AnswerLaws
 pub mod LengthLaws

@@ -12,7 +12,7 @@ use Rattle.words.specs.declared.Expected.{Expected}
 use Rattle.words.specs.declared.Expected.the-variants as Ex
 use Rattle.words.specs.Ascii.{ascii}
 use Rattle.words.specs.Words.{wordsOf}
-use Rattle.answers.specs.Tables.{Row, _is_, textOf}
+use Rattle.texts.specs.Tables.{Row, _is_, textOf}
 use Rattle.texts.specs.Texts.{longHexText, decimalText, bytesText, numbersText, wordsText, placesText}
 
 abbrev pub newline : List ℕ

@@ -1,4 +1,3 @@
--- The answer lines, to the letter.
+-- The tables of words and the answer lines, to the letter.
 -- Assumes nothing.
-pub mod Tables
 pub mod Answers

@@ -20,7 +20,7 @@ use texts::text::put_places;
 use words::Expected;
 use words::items::first_bytes;
 
-// Words from tables.
+// The tables of words.
 pub mod tables;
 
 // The numbers of the papers are below 10, abort codes far above.

@@ -1,9 +1,6 @@
-// Words for a number or for what was expected, from tables: a text with `;` between its entries.
+// Words for a number or for what was expected: the tables.
 ghost use mathlib.Core.Path.{_≡_};
-ghost use mathlib.Core.Bool.{false};
-ghost use Rattle.words.specs.Words.{InFront};
 ghost use Rattle.texts.specs.Texts.{Put};
-ghost use Rattle.answers.specs.Tables.{PutFrom, entryOf};
 ghost use Rattle.answers.specs.Answers.{refusalText, attributeText, expectedText, expectedPlace};
 use dictionary::refusals::NO_OBJECT;
 use dictionary::refusals::NO_SUB_INDEX;
@@ -14,12 +11,10 @@ use dictionary::refusals::TOO_HIGH;
 use dictionary::refusals::TOO_LONG;
 use dictionary::refusals::TOO_LOW;
 use dictionary::refusals::TOO_SHORT;
+use texts::tables::entry;
+use texts::tables::put_words;
 use texts::text::put_all;
 use words::Expected;
-use words::split::back;
-use words::split::front;
-use words::split::until;
-use words::split::without_first;
 
 // An attribute of the digital lines.
 pub fn put_attribute(out: &mut [u8], at: usize, row: usize) -> usize
@@ -88,37 +83,4 @@ fn expected_place(expected: Expected) -> usize
         Expected::Shorter => 9,
         Expected::Answer => 10,
     }
-}
-
-// From a table: the entry of a number's place among the numbers. The last entry is for any other number.
-fn put_words(out: &mut [u8], at: usize, numbers: &[u64], words: &[u8], number: u64) -> usize
-    ensures { λ r. ⌜ PutFrom (now (numbers .entry)) (now (words .entry)) number (now (out .entry)) at (now (out .exit)) r ⌝ }
-{
-    let n = place_of(numbers, number);
-    put_all(out, at, entry(words, n))
-}
-
-// How many numbers stand before `number`; all of them where it is none.
-fn place_of(numbers: &[u64], number: u64) -> usize
-    ensures { λ r. ⌜ InFront false number (now (numbers .entry)) r ⌝ }
-{
-    let mut i = 0;
-    while i < numbers.len() {
-        if numbers[i] == number {
-            return i;
-        }
-        i += 1;
-    }
-    i
-}
-
-// The nth of the entries that a `;` parts.
-fn entry(words: &[u8], n: usize) -> &[u8]
-    ensures { λ r. ⌜ now r ≡ entryOf n (now (words .entry)) ⌝ }
-{
-    let end = until(words, b';');
-    if n == 0 {
-        return front(words, end);
-    }
-    entry(without_first(back(words, end)), n - 1)
 }

@@ -1,3 +1,4 @@
--- Numbers, bytes and words as text.
+-- Numbers, bytes and words as text, and tables of words.
 -- Assumes nothing.
 pub mod Texts
+pub mod Tables

@@ -4,7 +4,7 @@ use mathlib.Core.Path.{refl}
 use borrow.Author.Needs.{needs}
 use Rattle.words.specs.Ascii.{ascii}
 use Rattle.answers.specs.Answers.{attributes, attributeText}
-use Rattle.answers.proofs.TableLaws.{table-put}
+use Rattle.texts.proofs.TableLaws.{table-put}
 use Rattle.answers.proofs.tables.put_attribute.Statement.{statement}
 use Rattle.answers.proofs.tables.put_attribute.Tie as tie
 

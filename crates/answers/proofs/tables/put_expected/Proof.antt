@@ -2,7 +2,7 @@
 -- Assumes nothing.
 use mathlib.Core.Path.{refl}
 use borrow.Author.Needs.{needs}
-use Rattle.answers.proofs.TableLaws.{expected-put}
+use Rattle.answers.proofs.ExpectedLaws.{expected-put}
 use Rattle.answers.proofs.tables.put_expected.Statement.{statement}
 use Rattle.answers.proofs.tables.put_expected.Tie as tie
 

@@ -8,12 +8,9 @@ use native.Mathlib.Numerals.{sub-one}
 use native.Mathlib.Omega.{arith}
 use lib.Dec.{eqb}
 use lib.ListN.{length, take, drop, getD}
-use Rattle.words.specs.declared.Expected.{Expected}
-use Rattle.words.specs.declared.Expected.the-variants as Ex
 use Rattle.words.specs.Words.{run, InFront}
-use Rattle.answers.specs.Tables.{Row, textOf, entryOf, PutFrom}
+use Rattle.texts.specs.Tables.{Row, textOf, entryOf, PutFrom}
 use Rattle.texts.specs.Texts.{Put}
-use Rattle.answers.specs.Answers.{expectedText, expectedPlace}
 use Rattle.words.proofs.RunLaws.{run-within}
 
 -- ---- an entry of a text
@@ -39,7 +36,7 @@ entry-among zero n text h = absurd (omega arith)
 entry-among (suc k) zero text h = refl
 entry-among (suc k) (suc n) text h = entry-among k n (drop 1 (drop (run false 59 text) text)) (omega arith)
 
-entry-is : (texts : List (List ℕ)) (text : List ℕ) (n : ℕ) → n < length texts → entriesOf (length texts) text ≡ texts
+pub entry-is : (texts : List (List ℕ)) (text : List ℕ) (n : ℕ) → n < length texts → entriesOf (length texts) text ≡ texts
     → entryOf n text ≡ getD texts n []
 entry-is texts text n h e = entry-among (length texts) n text h ∙ ap (λ (l : List (List ℕ)). getD l n []) e
 
@@ -81,30 +78,3 @@ table-put other rows {text} {a} {b} {n} {i} {j} e p =
     let place = run false n (numbersOf rows) in
     let inside : place < length (textsOf other rows) = omega (arith, run-within false n (numbersOf rows), one-more other rows) in
     subst (λ (t : List ℕ). Put t a i b j) (entry-is (textsOf other rows) text place inside e ∙ text-at other rows n) (p .put)
-
--- ---- what should have stood in a line
-
-abbrev pub expectedTexts : List (List ℕ)
-expectedTexts =
-    expectedText Ex.Call ∷ expectedText Ex.Byte ∷ expectedText Ex.Small ∷ expectedText Ex.Signed ∷ expectedText Ex.Cause
-    ∷ expectedText Ex.Data ∷ expectedText Ex.Slash ∷ expectedText Ex.Fewer ∷ expectedText Ex.End ∷ expectedText Ex.Shorter
-    ∷ expectedText Ex.Answer ∷ []
-
-expected-at : (e : Expected) → (expectedPlace e < 11) × (getD expectedTexts (expectedPlace e) [] ≡ expectedText e)
-expected-at Ex.Call = (omega arith, refl)
-expected-at Ex.Byte = (omega arith, refl)
-expected-at Ex.Small = (omega arith, refl)
-expected-at Ex.Signed = (omega arith, refl)
-expected-at Ex.Cause = (omega arith, refl)
-expected-at Ex.Data = (omega arith, refl)
-expected-at Ex.Slash = (omega arith, refl)
-expected-at Ex.Fewer = (omega arith, refl)
-expected-at Ex.End = (omega arith, refl)
-expected-at Ex.Shorter = (omega arith, refl)
-expected-at Ex.Answer = (omega arith, refl)
-
-pub expected-put : (e : Expected) (r text : List ℕ) (n : ℕ) {a b : List ℕ} {i j : ℕ} → entriesOf 11 text ≡ expectedTexts
-    → n ≡ expectedPlace e → r ≡ entryOf n text → Put r a i b j → Put (expectedText e) a i b j
-expected-put e r text n {a} {b} {i} {j} holds place is p =
-    let at-place = entry-is expectedTexts text (expectedPlace e) (expected-at e .0) holds in
-    subst (λ (t : List ℕ). Put t a i b j) (is ∙ ap (λ k. entryOf k text) place ∙ at-place ∙ expected-at e .1) p

@@ -10,8 +10,8 @@ use borrow.Author.Needs.{needs}
 use borrow.Author.Tests.{eqb-false, ne-eqb}
 use Rattle.words.specs.Words.{run}
 use Rattle.words.proofs.RunLaws.{run-more, run-stops, run-ends}
-use Rattle.answers.proofs.tables.place_of.Statement.{statement}
-use Rattle.answers.proofs.tables.place_of.Tie as tie
+use Rattle.texts.proofs.tables.place_of.Statement.{statement}
+use Rattle.texts.proofs.tables.place_of.Tie as tie
 
 abbrev Inv-loop : tie.InvT-loop
 Inv-loop numbers number i₀ i = (i ≤ length numbers) × (run false number numbers ≡ i + run false number (drop i numbers))

@@ -1,9 +1,9 @@
 -- `tables::put_words` meets its contract.
 -- Assumes nothing.
 use borrow.Author.Needs.{needs}
-use Rattle.answers.proofs.TableLaws.{put-from}
-use Rattle.answers.proofs.tables.put_words.Statement.{statement}
-use Rattle.answers.proofs.tables.put_words.Tie as tie
+use Rattle.texts.proofs.TableLaws.{put-from}
+use Rattle.texts.proofs.tables.put_words.Statement.{statement}
+use Rattle.texts.proofs.tables.put_words.Tie as tie
 
 place-of-requires : tie.Need-place-of-requires
 place-of-requires c κs = search needs

@@ -5,16 +5,16 @@ use native.Mathlib.Omega.{arith}
 use borrow.Fn.Kinds.{In}
 use borrow.Fn.PlainCycle.{Measures, is, falls, and}
 use borrow.Author.Needs.{needs}
-use Rattle.answers.proofs.TableLaws.{entry-first, entry-later}
-use Rattle.answers.proofs.tables.entry.Reads as entry
-use Rattle.answers.proofs.tables.entry.Kinds as entry-kinds
-use Rattle.answers.proofs.tables.+entry.Lts-entry as lts
+use Rattle.texts.proofs.TableLaws.{entry-first, entry-later}
+use Rattle.texts.proofs.tables.entry.Reads as entry
+use Rattle.texts.proofs.tables.entry.Kinds as entry-kinds
+use Rattle.texts.proofs.tables.+entry.Lts-entry as lts
 use Rattle.words.proofs.split.back.Reads as back
 use Rattle.words.proofs.split.front.Reads as front
 use Rattle.words.proofs.split.until.Reads as until
 use Rattle.words.proofs.split.without_first.Reads as without-first
-use Rattle.answers.proofs.tables.+entry.{statement}
-use Rattle.answers.proofs.tables.+entry.Tie.{close}
+use Rattle.texts.proofs.tables.+entry.{statement}
+use Rattle.texts.proofs.tables.+entry.Tie.{close}
 
 abbrev μ-entry : Measures 1 entry-kinds.ps ℕ
 μ-entry κs a = a .1 .0
