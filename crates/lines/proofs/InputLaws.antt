@@ -10,9 +10,11 @@ use borrow.Author.Tests.{leb-false}
 use Rattle.profile.specs.Bits.{bitAt, bit, flip}
 use Rattle.profile.specs.InputLine.{InputLine, settle, sampleLine, edge}
 use Rattle.profile.proofs.BitLaws.{gather-bits}
-use Rattle.lines.specs.declared.Row.{Row}
-use Rattle.lines.specs.View.{lineAt, rowAt, inputAt, outputAt}
-use Rattle.lines.specs.Promises.{Lined, rowSet, RowOf, Joins, Picks, Sampled, settledAt}
+use Rattle.windows.specs.declared.Row.{Row}
+use Rattle.windows.specs.View.{lineAt, rowAt}
+use Rattle.lines.specs.View.{inputAt, outputAt}
+use Rattle.windows.specs.Promises.{Lined, rowSet, RowOf, Joins, Picks}
+use Rattle.lines.specs.Promises.{Sampled, settledAt}
 use Rattle.lines.proofs.ColumnLaws.{input-of, output-of}
 
 -- ---- the settled bit and the count

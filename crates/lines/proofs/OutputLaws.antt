@@ -14,11 +14,13 @@ use Rattle.profile.specs.Entries.{inside, bitOf}
 use Rattle.profile.specs.OutputLine.{OutputLine, withDriven, writeOutputLine, moveOutputLine}
 use Rattle.profile.proofs.BitLaws.{bit-xor}
 use Rattle.profile.proofs.ListLaws.{bytes-cong}
-use Rattle.lines.specs.declared.Row.{Row}
-use Rattle.lines.specs.View.{lineAt, rowAt, window, inputAt, outputAt}
-use Rattle.lines.specs.Promises.{Lined, written, masked, rowSet, RowOf, Joins, Picks, Written, Moved, Driven, drivenAt}
-use Rattle.lines.proofs.WindowLaws.{both, window-bit}
-use Rattle.lines.proofs.RowLaws.{every, none, every-line, no-line}
+use Rattle.windows.specs.declared.Row.{Row}
+use Rattle.windows.specs.View.{lineAt, rowAt, window}
+use Rattle.lines.specs.View.{inputAt, outputAt}
+use Rattle.windows.specs.Promises.{Lined, written, masked, rowSet, RowOf, Joins, Picks}
+use Rattle.lines.specs.Promises.{Written, Moved, Driven, drivenAt}
+use Rattle.windows.proofs.WindowLaws.{both, window-bit}
+use Rattle.windows.proofs.RowLaws.{every, none, every-line, no-line}
 use Rattle.lines.proofs.ColumnLaws.{input-of, output-of}
 
 -- ---- writes

@@ -1,14 +1,15 @@
 // What the calls of the device do to every input line and output line, in place.
-use crate::Row;
-use crate::windows::get;
-use crate::windows::put;
-use crate::windows::put_masked;
-use crate::windows::row;
-use crate::windows::set_row;
+use windows::Row;
+use windows::access::get;
+use windows::access::put;
+use windows::access::put_masked;
+use windows::access::row;
+use windows::access::set_row;
 ghost use mathlib.Core.Path.{_≡_};
 ghost use Prim.Native.Nat.{_^_, _≤_, _<_};
 ghost use lib.ListN.{length};
-ghost use Rattle.lines.specs.Promises.{Covers, Lined, Fresh, Read, Written, Sampled, Moved, Driven, settledAt, drivenAt};
+ghost use Rattle.windows.specs.Promises.{Covers, Lined};
+ghost use Rattle.lines.specs.Promises.{Fresh, Read, Written, Sampled, Moved, Driven, settledAt, drivenAt};
 
 // The rows by name: document 01's table in its order, with the settled bit in row 0; then the driven bit and the count's two bits.
 const SETTLED: usize = 0;

@@ -3,8 +3,8 @@
 use mathlib.Core.Path.{_≡_}
 use mathlib.Core.Bool.{Bool, _&&_}
 use Prim.Native.Nat.{ℕ}
-use Rattle.lines.specs.declared.Row.{Row}
-use Rattle.lines.specs.View.{rowAt}
+use Rattle.windows.specs.declared.Row.{Row}
+use Rattle.windows.specs.View.{rowAt}
 
 -- the edges that are reported as events, where events are on
 pub record Reported (on : Bool) (edges r : Row) : Type 0 where

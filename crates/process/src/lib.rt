@@ -2,11 +2,11 @@
 use analogue_inputs::sample_all;
 use dictionary::refusals::drive_refusal;
 use dictionary::refusals::sample_refusal;
-use lines::Row;
 use lines::machines;
 use nodes::is_operational;
 use store::lend;
 use store::node_at;
+use windows::Row;
 ghost use Rattle.profile.specs.Calls.{Call};
 ghost use Rattle.store.specs.View.{held};
 ghost use Rattle.store.specs.Promises.{Ensured, EnsuredOf};

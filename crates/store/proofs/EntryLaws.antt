@@ -17,7 +17,7 @@ use Rattle.profile.specs.Entries.{entryOf, homeOf, any, notAllowed}
 use Rattle.profile.specs.Refusals.{Conditions, first, accessChecks, valueChecks}
 use Rattle.profile.proofs.EntryRanges.{WindowRange, InRange, in-range}
 use Rattle.profile.proofs.RefusalLaws.{AccessPassed, access-passed, ValuePassed, value-passed}
-use Rattle.lines.specs.Promises.{Covers}
+use Rattle.windows.specs.Promises.{Covers}
 use Rattle.channels.specs.Numbers.{NumberOf}
 use Rattle.analogue_inputs.proofs.WriteLaws.{input-fits}
 use Rattle.analogue_outputs.proofs.WriteLaws.{output-writable}

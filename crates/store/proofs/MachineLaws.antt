@@ -28,7 +28,8 @@ use Rattle.profile.proofs.BitLaws.{bit-zero}
 use Rattle.profile.proofs.StepLaws.{setting-names, setting-owns}
 use Rattle.profile.proofs.Home.{the-type}
 use Rattle.profile.specs.Outcome.{Same}
-use Rattle.lines.specs.View.{rowAt, inputAt, outputAt}
+use Rattle.windows.specs.View.{rowAt}
+use Rattle.lines.specs.View.{inputAt, outputAt}
 use Rattle.lines.specs.Promises as line
 use Rattle.analogue_inputs.specs.Promises as input
 use Rattle.analogue_outputs.specs.Promises as output

@@ -16,8 +16,10 @@ use Rattle.profile.specs.InputLine.{sampleLine, edge, lineEvent}
 use Rattle.profile.specs.OutputLine.{moveOutputLine}
 use Rattle.profile.specs.AnalogueOutput.{moveAnalogueOutput}
 use Rattle.profile.specs.AnalogueInput.{channelEvent}
-use Rattle.lines.specs.declared.Row.{Row}
-use Rattle.lines.specs.View.{rowAt, inputAt}
+use Rattle.windows.specs.declared.Row.{Row}
+use Rattle.windows.specs.View.{rowAt}
+use Rattle.lines.specs.View.{inputAt}
+use Rattle.windows.specs.Promises.{Loaded}
 use Rattle.lines.specs.Promises as line
 use Rattle.analogue_inputs.specs.Promises as input
 use Rattle.analogue_inputs.specs.Promises.{met}
@@ -214,7 +216,7 @@ pub record Sampling (d r : Parts) (digital : List ℕ) (analogue : List ℤ) (sh
   pub row : Row
   pub edges : Row
   pub reported : Row
-  pub loaded : line.Loaded digital row
+  pub loaded : Loaded digital row
   pub lines : line.Sampled (d .words) row edges (r .words)
   pub gated : (i : ℕ) → rowAt reported i ≡ (operational (d .node) && d .node .digital) && rowAt edges i
   pub stored : shown ≡ bytes 16 (rowAt reported)

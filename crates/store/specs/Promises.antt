@@ -10,7 +10,8 @@ use Rattle.profile.specs.declared.Home.{Home}
 use Rattle.profile.specs.declared.Home.the-variants.{Constant, Window, InputChannel, OutputChannel, Sources}
 use Rattle.profile.specs.declared.Home.the-variants as home
 use Rattle.profile.specs.AnalogueInput.{inputSize}
-use Rattle.lines.specs.Promises.{Covers, Moved}
+use Rattle.windows.specs.Promises.{Covers}
+use Rattle.lines.specs.Promises.{Moved}
 use Rattle.channels.specs.View.{outputAt}
 use Rattle.analogue_inputs.specs.Promises.{SourcesStored}
 use Rattle.analogue_outputs.specs.Promises.{OutputsMoved}

@@ -22,8 +22,8 @@ use Rattle.analogue_inputs.specs.Promises.{met, still, Sampled, tookNumb
 use Rattle.channels.proofs.Sweeps.{Backward, backward-none, backward-more, backward-stay}
 use Rattle.channels.proofs.StoreLaws.{outside-none, outside-set}
 use Rattle.analogue_inputs.proofs.StoreLaws.{sampled-here, sampled-else}
-use Rattle.analogue_inputs.proofs.Gathered.{Missing, missing-all, missing-less, missing-skip, missing-small, missing-none, weight-is}
-use Rattle.analogue_inputs.proofs.Gathered.{bit-room}
+use Rattle.analogue_inputs.proofs.Gathered.{Missing, missing-all, missing-less, missing-skip, missing-small, missing-none}
+use Rattle.analogue_inputs.proofs.Gathered.{weight-is, bit-room}
 use Rattle.analogue_inputs.proofs.MeetsLaws.{still-meets, still-taken}
 use Rattle.analogue_inputs.proofs.take_numbers.Statement.{statement}
 use Rattle.analogue_inputs.proofs.take_numbers.Tie as tie

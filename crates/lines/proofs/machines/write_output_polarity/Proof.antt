@@ -3,7 +3,7 @@
 use lib.Bits.{xor-lt}
 use borrow.Author.Needs.{needs}
 use Rattle.lines.proofs.OutputLaws.{inverted-in-fault, inverted-outside}
-use Rattle.lines.proofs.WindowLaws.{small-as}
+use Rattle.windows.proofs.WindowLaws.{small-as}
 use Rattle.lines.proofs.machines.write_output_polarity.Statement.{statement}
 use Rattle.lines.proofs.machines.write_output_polarity.Tie as tie
 
