@@ -1,4 +1,8 @@
 // The sixteen analogue inputs, in arrays that the caller lends.
+use channels::fields::Deltas;
+use channels::fields::Limits;
+use channels::fields::Octets;
+use channels::fields::Values;
 use channels::fields::input_at;
 use channels::fields::set_sample;
 use channels::fields::set_settings;
@@ -101,10 +105,10 @@ fn weigh(b: bool, weight: u32) -> u32
 
 // Every channel takes its number. The events, bit n - 1 for channel n.
 fn take_numbers(
-    octets: &[u8; 21],
-    limits: &[i32; 32],
-    deltas: &[u32; 48],
-    values: &mut [i16; 56],
+    octets: &Octets,
+    limits: &Limits,
+    deltas: &Deltas,
+    values: &mut Values,
     xs: &[i16],
     on: bool,
 ) -> u32
@@ -135,10 +139,10 @@ fn take_numbers(
 
 // The same, and the source bit of each event becomes 1.
 pub fn sample_all(
-    octets: &mut [u8; 21],
-    limits: &[i32; 32],
-    deltas: &[u32; 48],
-    values: &mut [i16; 56],
+    octets: &mut Octets,
+    limits: &Limits,
+    deltas: &Deltas,
+    values: &mut Values,
     xs: &[i16],
     on: bool,
 ) -> u16
@@ -156,14 +160,14 @@ pub fn sample_all(
 }
 
 // The source bits that a read of 6422:1 answers, bit n - 1 for channel n.
-pub fn read_sources(octets: &[u8; 21]) -> u32
+pub fn read_sources(octets: &Octets) -> u32
     ensures { λ r. ⌜ r ≡ gather 16 (bitAt (sourcesOf (now (octets .entry)))) ⌝ }
 {
     sources_at(octets)
 }
 
 // Every source bit becomes 0.
-pub fn clear_sources(octets: &mut [u8; 21])
+pub fn clear_sources(octets: &mut Octets)
     requires { ⌜ length (now octets) ≡ 21 ⌝ }
     ensures { λ _. ⌜ SourcesStored 0 (now (octets .entry)) (now (octets .exit)) ⌝ }
 {
@@ -231,10 +235,10 @@ pub fn write_input(channel: AnalogueInput, index: u16, value: u32) -> AnalogueIn
 
 // A value is written to one channel.
 pub fn write_at(
-    octets: &mut [u8; 21],
-    limits: &mut [i32; 32],
-    deltas: &mut [u32; 48],
-    values: &[i16; 56],
+    octets: &mut Octets,
+    limits: &mut Limits,
+    deltas: &mut Deltas,
+    values: &Values,
     n: usize,
     index: u16,
     value: u32,

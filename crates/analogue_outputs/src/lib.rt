@@ -1,4 +1,6 @@
 // The eight analogue outputs, in arrays that the caller lends.
+use channels::fields::Flags;
+use channels::fields::Values;
 use channels::fields::driven_at;
 use channels::fields::output_at;
 use channels::fields::set_driven;
@@ -34,7 +36,7 @@ pub fn moved(output: AnalogueOutput, before: bool, after: bool) -> AnalogueOutpu
 }
 
 // Every output moves where fault begins or ends.
-pub fn move_all(flags: &[bool; 12], values: &mut [i16; 56], before: bool, after: bool)
+pub fn move_all(flags: &Flags, values: &mut Values, before: bool, after: bool)
     requires { ⌜ length (now values) ≡ 56 ⌝ }
     ensures { λ _. ⌜ OutputsMoved before after
         (outputAt (now (flags .entry)) (now (values .entry))) (outputAt (now (flags .entry)) (now (values .exit)))
@@ -89,8 +91,8 @@ pub fn write_output(output: AnalogueOutput, index: u16, value: u32, fault: bool)
 
 // A value is written to one channel.
 pub fn write_at(
-    flags: &mut [bool; 12],
-    values: &mut [i16; 56],
+    flags: &mut Flags,
+    values: &mut Values,
     n: usize,
     index: u16,
     value: u32,
@@ -108,7 +110,7 @@ pub fn write_at(
 }
 
 // The driven numbers.
-pub fn drive(values: &[i16; 56], out: &mut [i16])
+pub fn drive(values: &Values, out: &mut [i16])
     requires { ⌜ length (now out) ≡ 8 ⌝ }
     ensures { λ _. ⌜ Driven (drivenOf (now (values .entry))) (now (out .exit)) ⌝ }
 {

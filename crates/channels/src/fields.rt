@@ -8,6 +8,28 @@ ghost use Rattle.profile.specs.Bits.{bitAt};
 ghost use Rattle.channels.specs.View.{inputWith, inputAt, outputAt, drivenOf, sourcesOf, limitsSet, deltasSet, selectionSet};
 ghost use Rattle.channels.specs.View.{samplesSet, sourcesSet, outputSet, modeSet, modesSet};
 
+// How many elements each array of channels has.
+pub const OCTETS: usize = 21;
+
+pub const FLAGS: usize = 12;
+
+pub const LIMITS: usize = 32;
+
+pub const DELTAS: usize = 48;
+
+pub const VALUES: usize = 56;
+
+// The arrays that the device lends.
+pub type Octets = [u8; OCTETS];
+
+pub type Flags = [bool; FLAGS];
+
+pub type Limits = [i32; LIMITS];
+
+pub type Deltas = [u32; DELTAS];
+
+pub type Values = [i16; VALUES];
+
 // In limits, after upper.
 const LOWER: usize = 16;
 
@@ -37,10 +59,10 @@ const SOURCES_HIGH: usize = 20;
 const MODE: usize = 4;
 
 pub fn input_at(
-    octets: &[u8; 21],
-    limits: &[i32; 32],
-    deltas: &[u32; 48],
-    values: &[i16; 56],
+    octets: &Octets,
+    limits: &Limits,
+    deltas: &Deltas,
+    values: &Values,
     n: usize,
 ) -> AnalogueInput
     requires { ⌜ n < 16 ⌝ }
@@ -53,10 +75,10 @@ pub fn input_at(
 // With a source bit that is known.
 fn input_with(
     source: bool,
-    octets: &[u8; 21],
-    limits: &[i32; 32],
-    deltas: &[u32; 48],
-    values: &[i16; 56],
+    octets: &Octets,
+    limits: &Limits,
+    deltas: &Deltas,
+    values: &Values,
     n: usize,
 ) -> AnalogueInput
     requires { ⌜ n < 16 ⌝ }
@@ -77,9 +99,9 @@ fn input_with(
 
 // What a write can change of an input.
 pub fn set_settings(
-    octets: &mut [u8; 21],
-    limits: &mut [i32; 32],
-    deltas: &mut [u32; 48],
+    octets: &mut Octets,
+    limits: &mut Limits,
+    deltas: &mut Deltas,
     n: usize,
     new: AnalogueInput,
 )
@@ -99,7 +121,7 @@ pub fn set_settings(
 }
 
 // What a sample can change of an input, but for its source bit.
-pub fn set_sample(values: &mut [i16; 56], n: usize, new: AnalogueInput)
+pub fn set_sample(values: &mut Values, n: usize, new: AnalogueInput)
     requires { ⌜ n < 16 ⌝ }
     ensures { λ _. ⌜ now (values .exit) ≡ samplesSet (now (values .entry)) n new ⌝ }
 {
@@ -110,7 +132,7 @@ pub fn set_sample(values: &mut [i16; 56], n: usize, new: AnalogueInput)
 }
 
 // The source bit of one channel.
-fn source_at(octets: &[u8; 21], n: usize) -> bool
+fn source_at(octets: &Octets, n: usize) -> bool
     requires { ⌜ n < 16 ⌝ }
     ensures { λ r. ⌜ r ≡ bitAt (sourcesOf (now (octets .entry))) n ⌝ }
 {
@@ -119,7 +141,7 @@ fn source_at(octets: &[u8; 21], n: usize) -> bool
 }
 
 // The source bits of all channels, bit n for channel n.
-pub fn sources_at(octets: &[u8; 21]) -> u32
+pub fn sources_at(octets: &Octets) -> u32
     ensures { λ r. ⌜ (r ≡ sourcesOf (now (octets .entry))) × (r < 65536) ⌝ }
 {
     let low = octets[SOURCES_LOW];
@@ -133,7 +155,7 @@ fn two_bytes(low: u8, high: u8) -> u32
     (low as u32) + 256 * (high as u32)
 }
 
-pub fn set_sources(octets: &mut [u8; 21], sources: u32)
+pub fn set_sources(octets: &mut Octets, sources: u32)
     requires { ⌜ sources < 65536 ⌝ }
     ensures { λ _. ⌜ now (octets .exit) ≡ sourcesSet (now (octets .entry)) sources ⌝ }
 {
@@ -141,7 +163,7 @@ pub fn set_sources(octets: &mut [u8; 21], sources: u32)
     octets[SOURCES_HIGH] = (sources / 256) as u8;
 }
 
-pub fn output_at(flags: &[bool; 12], values: &[i16; 56], n: usize) -> AnalogueOutput
+pub fn output_at(flags: &Flags, values: &Values, n: usize) -> AnalogueOutput
     requires { ⌜ n < 8 ⌝ }
     ensures { λ r. ⌜ r ≡ outputAt (now (flags .entry)) (now (values .entry)) n ⌝ }
 {
@@ -153,7 +175,7 @@ pub fn output_at(flags: &[bool; 12], values: &[i16; 56], n: usize) -> AnalogueOu
     }
 }
 
-pub fn set_output(flags: &mut [bool; 12], values: &mut [i16; 56], n: usize, new: AnalogueOutput)
+pub fn set_output(flags: &mut Flags, values: &mut Values, n: usize, new: AnalogueOutput)
     requires { ⌜ n < 8 ⌝ }
     ensures { λ _. ⌜ (now (flags .exit) ≡ modeSet (now (flags .entry)) n new) ×
         (now (values .exit) ≡ outputSet (now (values .entry)) n new) ⌝ }
@@ -167,14 +189,14 @@ pub fn set_output(flags: &mut [bool; 12], values: &mut [i16; 56], n: usize, new:
     values[DRIVEN + n] = driven;
 }
 
-pub fn driven_at(values: &[i16; 56], n: usize) -> i16
+pub fn driven_at(values: &Values, n: usize) -> i16
     requires { ⌜ n < 8 ⌝ }
     ensures { λ r. ⌜ r ≡ drivenOf (now (values .entry)) n ⌝ }
 {
     values[DRIVEN + n]
 }
 
-pub fn set_driven(values: &mut [i16; 56], n: usize, driven: i16)
+pub fn set_driven(values: &mut Values, n: usize, driven: i16)
     requires { ⌜ n < 8 ⌝ }
     ensures { λ _. ⌜ now (values .exit) ≡ set (now (values .entry)) (48 + n) driven ⌝ }
 {
@@ -182,7 +204,7 @@ pub fn set_driven(values: &mut [i16; 56], n: usize, driven: i16)
 }
 
 // Every error mode becomes 1.
-pub fn set_modes(flags: &mut [bool; 12])
+pub fn set_modes(flags: &mut Flags)
     ensures { λ _. ⌜ now (flags .exit) ≡ modesSet (now (flags .entry)) ⌝ }
 {
     flags[MODE] = true;

@@ -1,16 +1,22 @@
 // The device of document 01: six arrays, and its eight calls as methods. Every call is refused or accepted on every input.
+use channels::fields::Deltas;
+use channels::fields::Flags;
+use channels::fields::Limits;
+use channels::fields::Octets;
+use channels::fields::Values;
+use windows::Words;
 
 // The eight calls as methods.
 pub mod methods;
 
 // By element type: bytes, flags, the words of the lines, the limits, the deltas and the values of the channels.
 pub struct Device {
-    pub octets: [u8; 21],
-    pub flags: [bool; 12],
-    pub words: [u64; 28],
-    pub limits: [i32; 32],
-    pub deltas: [u32; 48],
-    pub values: [i16; 56],
+    pub octets: Octets,
+    pub flags: Flags,
+    pub words: Words,
+    pub limits: Limits,
+    pub deltas: Deltas,
+    pub values: Values,
 }
 
 // What create hands back.

@@ -5,9 +5,15 @@ use crate::Created;
 use crate::Device;
 use crate::ReadAnswer;
 use crate::SampleAnswer;
+use channels::fields::DELTAS;
+use channels::fields::FLAGS;
+use channels::fields::LIMITS;
+use channels::fields::OCTETS;
+use channels::fields::VALUES;
 use profile::Cause;
 use profile::Node;
 use store::node_at;
+use windows::WORDS;
 ghost use mathlib.Core.Path.{_≡_};
 ghost use Rattle.profile.specs.Calls.{Call};
 ghost use Rattle.store.specs.View.{nodeAt};
@@ -19,12 +25,12 @@ impl Device {
     pub fn create(number: u8) -> Created
         ensures { λ r. ⌜ CreatedAs number r ⌝ }
     {
-        let mut octets = [0u8; 21];
-        let mut flags = [false; 12];
-        let mut words = [0u64; 28];
-        let mut limits = [0i32; 32];
-        let mut deltas = [0u32; 48];
-        let mut values = [0i16; 56];
+        let mut octets = [0u8; OCTETS];
+        let mut flags = [false; FLAGS];
+        let mut words = [0u64; WORDS];
+        let mut limits = [0i32; LIMITS];
+        let mut deltas = [0u32; DELTAS];
+        let mut values = [0i16; VALUES];
         let refused = network::create(
             &mut octets,
             &mut flags,

@@ -1,5 +1,10 @@
 // The eight calls in place, for C.
 use crate::causes::cause_of;
+use channels::fields::Deltas;
+use channels::fields::Flags;
+use channels::fields::Limits;
+use channels::fields::Octets;
+use channels::fields::Values;
 use network::clear;
 use network::command;
 use network::create;
@@ -10,6 +15,7 @@ use objects::write;
 use process::SampleNumber;
 use process::drive;
 use process::sample;
+use windows::Words;
 ghost use Rattle.profile.specs.Calls.{Call};
 ghost use Rattle.profile.specs.Replies.{plain};
 ghost use Rattle.store.specs.View.{held};
@@ -21,12 +27,12 @@ ghost use Rattle.io401.specs.Causes.{causeOf};
 // A refused node number gives a device with node number 127.
 #[no_mangle]
 pub extern "C" fn io401_create_arrays(
-    octets: &mut [u8; 21],
-    flags: &mut [bool; 12],
-    words: &mut [u64; 28],
-    limits: &mut [i32; 32],
-    deltas: &mut [u32; 48],
-    values: &mut [i16; 56],
+    octets: &mut Octets,
+    flags: &mut Flags,
+    words: &mut Words,
+    limits: &mut Limits,
+    deltas: &mut Deltas,
+    values: &mut Values,
     number: u8,
 ) -> u32
     ensures { λ r. ⌜ FreshAs number r
@@ -38,12 +44,12 @@ pub extern "C" fn io401_create_arrays(
 
 #[no_mangle]
 pub extern "C" fn io401_read_arrays(
-    octets: &mut [u8; 21],
-    flags: &[bool; 12],
-    words: &[u64; 28],
-    limits: &[i32; 32],
-    deltas: &[u32; 48],
-    values: &[i16; 56],
+    octets: &mut Octets,
+    flags: &Flags,
+    words: &Words,
+    limits: &Limits,
+    deltas: &Deltas,
+    values: &Values,
     index: u16,
     sub: u8,
 ) -> ReadNumber
@@ -59,12 +65,12 @@ pub extern "C" fn io401_read_arrays(
 
 #[no_mangle]
 pub extern "C" fn io401_write_arrays(
-    octets: &mut [u8; 21],
-    flags: &mut [bool; 12],
-    words: &mut [u64; 28],
-    limits: &mut [i32; 32],
-    deltas: &mut [u32; 48],
-    values: &mut [i16; 56],
+    octets: &mut Octets,
+    flags: &mut Flags,
+    words: &mut Words,
+    limits: &mut Limits,
+    deltas: &mut Deltas,
+    values: &mut Values,
     index: u16,
     sub: u8,
     bytes: &[u8],
@@ -91,12 +97,12 @@ pub extern "C" fn io401_write_arrays(
 
 #[no_mangle]
 pub extern "C" fn io401_sample_arrays(
-    octets: &mut [u8; 21],
-    flags: &[bool; 12],
-    words: &mut [u64; 28],
-    limits: &[i32; 32],
-    deltas: &[u32; 48],
-    values: &mut [i16; 56],
+    octets: &mut Octets,
+    flags: &Flags,
+    words: &mut Words,
+    limits: &Limits,
+    deltas: &Deltas,
+    values: &mut Values,
     digital: &[u8],
     analogue: &[i16],
     events: &mut [u8],
@@ -123,12 +129,12 @@ pub extern "C" fn io401_sample_arrays(
 
 #[no_mangle]
 pub extern "C" fn io401_command_arrays(
-    octets: &mut [u8; 21],
-    flags: &mut [bool; 12],
-    words: &mut [u64; 28],
-    limits: &mut [i32; 32],
-    deltas: &mut [u32; 48],
-    values: &mut [i16; 56],
+    octets: &mut Octets,
+    flags: &mut Flags,
+    words: &mut Words,
+    limits: &mut Limits,
+    deltas: &mut Deltas,
+    values: &mut Values,
     code: u8,
     node: u8,
 ) -> u32
@@ -146,10 +152,10 @@ pub extern "C" fn io401_command_arrays(
 
 #[no_mangle]
 pub extern "C" fn io401_raise_arrays(
-    octets: &mut [u8; 21],
-    flags: &mut [bool; 12],
-    words: &mut [u64; 28],
-    values: &mut [i16; 56],
+    octets: &mut Octets,
+    flags: &mut Flags,
+    words: &mut Words,
+    values: &mut Values,
     loss: bool,
 ) -> u32
     ensures { λ r. ⌜ EnsuredBeside (now (octets .entry)) (now (flags .entry)) (now (words .entry)) (now (values .entry))
@@ -164,10 +170,10 @@ pub extern "C" fn io401_raise_arrays(
 
 #[no_mangle]
 pub extern "C" fn io401_clear_arrays(
-    octets: &mut [u8; 21],
-    flags: &mut [bool; 12],
-    words: &mut [u64; 28],
-    values: &mut [i16; 56],
+    octets: &mut Octets,
+    flags: &mut Flags,
+    words: &mut Words,
+    values: &mut Values,
     loss: bool,
 ) -> u32
     ensures { λ r. ⌜ EnsuredBeside (now (octets .entry)) (now (flags .entry)) (now (words .entry)) (now (values .entry))
@@ -180,8 +186,8 @@ pub extern "C" fn io401_clear_arrays(
 
 #[no_mangle]
 pub extern "C" fn io401_drive_arrays(
-    words: &[u64; 28],
-    values: &[i16; 56],
+    words: &Words,
+    values: &Values,
     lines: &mut [u8],
     channels: &mut [i16],
 ) -> u32

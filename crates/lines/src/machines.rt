@@ -1,5 +1,7 @@
 // What the calls of the device do to every input line and output line, in place.
 use windows::Row;
+use windows::WORDS;
+use windows::Words;
 use windows::access::get;
 use windows::access::put;
 use windows::access::put_masked;
@@ -43,21 +45,21 @@ const COUNT_HIGH: usize = 13;
 const ONES: u64 = 0xffff_ffff_ffff_ffff;
 
 // Every line with its defaults: any change, error mode and output filter mask are 1, all else is 0.
-pub fn fresh(words: &mut [u64; 28])
+pub fn fresh(words: &mut Words)
     ensures { λ _. ⌜ Fresh (now (words .exit)) ⌝ }
 {
     let all = Row {
         low: ONES,
         high: ONES,
     };
-    *words = [0; 28];
+    *words = [0; WORDS];
     set_row(words, ANY_CHANGE, all);
     set_row(words, ERROR_MODE, all);
     set_row(words, OUTPUT_MASK, all);
 }
 
 // Inputs read under their polarity, every other row as it stands.
-pub fn read(words: &[u64; 28], row: usize, width: usize, sub: usize) -> u32
+pub fn read(words: &Words, row: usize, width: usize, sub: usize) -> u32
     requires { ⌜ Covers row width sub ⌝ }
     requires { ⌜ row < 11 ⌝ }
     ensures { λ r. ⌜ Read (now (words .entry)) row width sub r ⌝ }
@@ -69,7 +71,7 @@ pub fn read(words: &[u64; 28], row: usize, width: usize, sub: usize) -> u32
 }
 
 // Outside fault the driven lines follow what is written to the outputs or their polarity.
-pub fn write(words: &mut [u64; 28], row: usize, width: usize, sub: usize, value: u32, fault: bool)
+pub fn write(words: &mut Words, row: usize, width: usize, sub: usize, value: u32, fault: bool)
     requires { ⌜ length (now words) ≡ 28 ⌝ }
     requires { ⌜ Covers row width sub ⌝ }
     requires { ⌜ 1 ≤ row ⌝ }
@@ -89,7 +91,7 @@ pub fn write(words: &mut [u64; 28], row: usize, width: usize, sub: usize, value:
 }
 
 // Only outputs whose filter mask is 1 take the value.
-fn write_output_lines(words: &mut [u64; 28], width: usize, sub: usize, value: u32, fault: bool)
+fn write_output_lines(words: &mut Words, width: usize, sub: usize, value: u32, fault: bool)
     requires { ⌜ length (now words) ≡ 28 ⌝ }
     requires { ⌜ Covers 6 width sub ⌝ }
     requires { ⌜ value < 2 ^ width ⌝ }
@@ -104,7 +106,7 @@ fn write_output_lines(words: &mut [u64; 28], width: usize, sub: usize, value: u3
 }
 
 // Outputs that are driven invert with their polarity.
-fn write_output_polarity(words: &mut [u64; 28], width: usize, sub: usize, value: u32, fault: bool)
+fn write_output_polarity(words: &mut Words, width: usize, sub: usize, value: u32, fault: bool)
     requires { ⌜ length (now words) ≡ 28 ⌝ }
     requires { ⌜ Covers 7 width sub ⌝ }
     requires { ⌜ value < 2 ^ width ⌝ }
@@ -119,7 +121,7 @@ fn write_output_polarity(words: &mut [u64; 28], width: usize, sub: usize, value:
 }
 
 // One sample of every input line, and the edges that it makes.
-pub fn sample(words: &mut [u64; 28], new: Row) -> Row
+pub fn sample(words: &mut Words, new: Row) -> Row
     requires { ⌜ length (now words) ≡ 28 ⌝ }
     ensures { λ r. ⌜ Sampled (now (words .entry)) new r (now (words .exit)) ⌝ }
 {
@@ -138,7 +140,7 @@ pub fn sample(words: &mut [u64; 28], new: Row) -> Row
 
 // The settled bits and the counts after a sample: a line that differs changes where its filter is off or its count is 2 or more, else it
 // counts on.
-fn settle(words: &mut [u64; 28], new: Row)
+fn settle(words: &mut Words, new: Row)
     requires { ⌜ length (now words) ≡ 28 ⌝ }
     ensures { λ _. ⌜ Lined (now (words .exit)) (settledAt (now (words .entry)) new) ⌝ }
 {
@@ -155,7 +157,7 @@ fn settle(words: &mut [u64; 28], new: Row)
 }
 
 // Fault begins: the error value, polarity not applied, is driven where error mode is 1. Fault ends: all outputs are driven again.
-pub fn move_outputs(words: &mut [u64; 28], before: bool, after: bool)
+pub fn move_outputs(words: &mut Words, before: bool, after: bool)
     requires { ⌜ length (now words) ≡ 28 ⌝ }
     ensures { λ _. ⌜ Moved before after (now (words .entry)) (now (words .exit)) ⌝ }
 {
@@ -179,7 +181,7 @@ pub fn move_outputs(words: &mut [u64; 28], before: bool, after: bool)
 }
 
 // Where the mask is 1 the driven lines become the source, inverted where polarity is 1.
-fn drive_row(words: &mut [u64; 28], mask: Row, source: Row, polarity: Row)
+fn drive_row(words: &mut Words, mask: Row, source: Row, polarity: Row)
     requires { ⌜ length (now words) ≡ 28 ⌝ }
     ensures { λ _. ⌜ Lined (now (words .exit)) (drivenAt (now (words .entry)) mask source polarity) ⌝ }
 {
@@ -188,7 +190,7 @@ fn drive_row(words: &mut [u64; 28], mask: Row, source: Row, polarity: Row)
 }
 
 // The driven lines as sixteen bytes.
-pub fn drive(words: &[u64; 28], out: &mut [u8])
+pub fn drive(words: &Words, out: &mut [u8])
     requires { ⌜ length (now out) ≡ 16 ⌝ }
     ensures { λ _. ⌜ Driven (now (words .entry)) (now (out .exit)) ⌝ }
 {

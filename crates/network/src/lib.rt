@@ -1,5 +1,10 @@
 // create, command, raise and clear, in place.
 use analogue_outputs::move_all;
+use channels::fields::Deltas;
+use channels::fields::Flags;
+use channels::fields::Limits;
+use channels::fields::Octets;
+use channels::fields::Values;
 use dictionary::refusals::command_refusal;
 use dictionary::refusals::create_refusal;
 use lines::machines::move_outputs;
@@ -15,6 +20,7 @@ use store::lend_settings;
 use store::node_at;
 use store::set_fresh;
 use store::set_node;
+use windows::Words;
 ghost use mathlib.Core.Path.{_≡_};
 ghost use lib.ListN.{length};
 ghost use Rattle.profile.specs.Calls.{Call};
@@ -24,12 +30,12 @@ ghost use Rattle.store.specs.Promises.{FreshAs, Ensured, EnsuredBeside, Followe
 
 // A refused node number gives a device with node number 127.
 pub fn create(
-    octets: &mut [u8; 21],
-    flags: &mut [bool; 12],
-    words: &mut [u64; 28],
-    limits: &mut [i32; 32],
-    deltas: &mut [u32; 48],
-    values: &mut [i16; 56],
+    octets: &mut Octets,
+    flags: &mut Flags,
+    words: &mut Words,
+    limits: &mut Limits,
+    deltas: &mut Deltas,
+    values: &mut Values,
     number: u8,
 ) -> u32
     ensures { λ r. ⌜ FreshAs number r
@@ -46,12 +52,12 @@ pub fn create(
 }
 
 pub fn command(
-    octets: &mut [u8; 21],
-    flags: &mut [bool; 12],
-    words: &mut [u64; 28],
-    limits: &mut [i32; 32],
-    deltas: &mut [u32; 48],
-    values: &mut [i16; 56],
+    octets: &mut Octets,
+    flags: &mut Flags,
+    words: &mut Words,
+    limits: &mut Limits,
+    deltas: &mut Deltas,
+    values: &mut Values,
     code: u8,
     to: u8,
 ) -> u32
@@ -83,10 +89,10 @@ pub fn command(
 }
 
 pub fn raise(
-    octets: &mut [u8; 21],
-    flags: &mut [bool; 12],
-    words: &mut [u64; 28],
-    values: &mut [i16; 56],
+    octets: &mut Octets,
+    flags: &mut Flags,
+    words: &mut Words,
+    values: &mut Values,
     cause: Cause,
 ) -> u32
     ensures { λ r. ⌜ EnsuredBeside (now (octets .entry)) (now (flags .entry)) (now (words .entry)) (now (values .entry))
@@ -102,10 +108,10 @@ pub fn raise(
 }
 
 pub fn clear(
-    octets: &mut [u8; 21],
-    flags: &mut [bool; 12],
-    words: &mut [u64; 28],
-    values: &mut [i16; 56],
+    octets: &mut Octets,
+    flags: &mut Flags,
+    words: &mut Words,
+    values: &mut Values,
     cause: Cause,
 ) -> u32
     ensures { λ r. ⌜ EnsuredBeside (now (octets .entry)) (now (flags .entry)) (now (words .entry)) (now (values .entry))
@@ -121,13 +127,7 @@ pub fn clear(
 }
 
 // Where fault begins or ends every output moves.
-fn follow_fault(
-    flags: &[bool; 12],
-    words: &mut [u64; 28],
-    values: &mut [i16; 56],
-    before: bool,
-    after: bool,
-)
+fn follow_fault(flags: &Flags, words: &mut Words, values: &mut Values, before: bool, after: bool)
     requires { ⌜ (length (now words) ≡ 28) × (length (now values) ≡ 56) ⌝ }
     ensures { λ _. ⌜ Followed before after (now (flags .entry)) (now (words .entry)) (now (words .exit)) (now (values .entry))
         (now (values .exit)) ⌝ }

@@ -3,6 +3,11 @@ use analogue_inputs::clear_sources;
 use analogue_inputs::read_input;
 use analogue_inputs::read_sources;
 use analogue_outputs::read_output;
+use channels::fields::Deltas;
+use channels::fields::Flags;
+use channels::fields::Limits;
+use channels::fields::Octets;
+use channels::fields::Values;
 use channels::fields::input_at;
 use channels::fields::output_at;
 use channels::numbers::number;
@@ -19,6 +24,7 @@ use store::lend;
 use store::lend_settings;
 use store::node_at;
 use store::set_node;
+use windows::Words;
 ghost use mathlib.Core.Path.{_≡_};
 ghost use lib.ListN.{length};
 ghost use Rattle.profile.specs.Calls.{Call};
@@ -37,12 +43,12 @@ pub struct ReadNumber {
 }
 
 pub fn read(
-    octets: &mut [u8; 21],
-    flags: &[bool; 12],
-    words: &[u64; 28],
-    limits: &[i32; 32],
-    deltas: &[u32; 48],
-    values: &[i16; 56],
+    octets: &mut Octets,
+    flags: &Flags,
+    words: &Words,
+    limits: &Limits,
+    deltas: &Deltas,
+    values: &Values,
     index: u16,
     sub: u8,
 ) -> ReadNumber
@@ -76,12 +82,12 @@ pub fn read(
 
 // The value that a read of an entry answers.
 fn value_at(
-    octets: &[u8; 21],
-    flags: &[bool; 12],
-    words: &[u64; 28],
-    limits: &[i32; 32],
-    deltas: &[u32; 48],
-    values: &[i16; 56],
+    octets: &Octets,
+    flags: &Flags,
+    words: &Words,
+    limits: &Limits,
+    deltas: &Deltas,
+    values: &Values,
     home: Home,
 ) -> u32
     requires { ⌜ Readable home ⌝ }
@@ -109,7 +115,7 @@ fn value_at(
 }
 
 // A read of 6422:1 clears the source bits that it answers.
-fn take_sources(octets: &mut [u8; 21], home: Home)
+fn take_sources(octets: &mut Octets, home: Home)
     requires { ⌜ length (now octets) ≡ 21 ⌝ }
     ensures { λ _. ⌜ SourcesRead home (now (octets .entry)) (now (octets .exit)) ⌝ }
 {
@@ -119,12 +125,12 @@ fn take_sources(octets: &mut [u8; 21], home: Home)
 }
 
 pub fn write(
-    octets: &mut [u8; 21],
-    flags: &mut [bool; 12],
-    words: &mut [u64; 28],
-    limits: &mut [i32; 32],
-    deltas: &mut [u32; 48],
-    values: &mut [i16; 56],
+    octets: &mut Octets,
+    flags: &mut Flags,
+    words: &mut Words,
+    limits: &mut Limits,
+    deltas: &mut Deltas,
+    values: &mut Values,
     index: u16,
     sub: u8,
     bytes: &[u8],
@@ -156,12 +162,12 @@ pub fn write(
 
 // A write that is not refused, by where its entry lives.
 fn after_write(
-    octets: &mut [u8; 21],
-    flags: &mut [bool; 12],
-    words: &mut [u64; 28],
-    limits: &mut [i32; 32],
-    deltas: &mut [u32; 48],
-    values: &mut [i16; 56],
+    octets: &mut Octets,
+    flags: &mut Flags,
+    words: &mut Words,
+    limits: &mut Limits,
+    deltas: &mut Deltas,
+    values: &mut Values,
     home: Home,
     value: u32,
 )

@@ -1,5 +1,10 @@
 // sample and drive, in place.
 use analogue_inputs::sample_all;
+use channels::fields::Deltas;
+use channels::fields::Flags;
+use channels::fields::Limits;
+use channels::fields::Octets;
+use channels::fields::Values;
 use dictionary::refusals::drive_refusal;
 use dictionary::refusals::sample_refusal;
 use lines::machines;
@@ -7,6 +12,7 @@ use nodes::is_operational;
 use store::lend;
 use store::node_at;
 use windows::Row;
+use windows::Words;
 ghost use Rattle.profile.specs.Calls.{Call};
 ghost use Rattle.store.specs.View.{held};
 ghost use Rattle.store.specs.Promises.{Ensured, EnsuredOf};
@@ -22,12 +28,12 @@ pub struct SampleNumber {
 }
 
 pub fn sample(
-    octets: &mut [u8; 21],
-    flags: &[bool; 12],
-    words: &mut [u64; 28],
-    limits: &[i32; 32],
-    deltas: &[u32; 48],
-    values: &mut [i16; 56],
+    octets: &mut Octets,
+    flags: &Flags,
+    words: &mut Words,
+    limits: &Limits,
+    deltas: &Deltas,
+    values: &mut Values,
     digital: &[u8],
     analogue: &[i16],
     events: &mut [u8],
@@ -59,7 +65,7 @@ pub fn sample(
     }
 }
 
-pub fn drive(words: &[u64; 28], values: &[i16; 56], lines: &mut [u8], channels: &mut [i16]) -> u32
+pub fn drive(words: &Words, values: &Values, lines: &mut [u8], channels: &mut [i16]) -> u32
     ensures { λ r. ⌜ EnsuredOf (now (words .entry)) (now (values .entry))
         (Call.drive (now (lines .entry)) (now (channels .entry))) (driveNumber r (now (lines .exit)) (now (channels .exit))) ⌝ }
 {

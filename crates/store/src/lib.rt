@@ -1,10 +1,21 @@
 // The six arrays of a device: the node that they hold, and fresh arrays. What the calls in place promise of them is in specs/.
+use channels::fields::DELTAS;
+use channels::fields::Deltas;
+use channels::fields::FLAGS;
+use channels::fields::Flags;
+use channels::fields::LIMITS;
+use channels::fields::Limits;
+use channels::fields::OCTETS;
+use channels::fields::Octets;
+use channels::fields::VALUES;
+use channels::fields::Values;
 use channels::fields::set_modes;
 use channels::fields::set_sources;
 use lines::machines;
 use nodes::fresh;
 use profile::Node;
 use profile::State;
+use windows::Words;
 ghost use mathlib.Core.Path.{_≡_};
 ghost use Rattle.store.specs.View.{stateOf, stateNumber, nodeAt, nodeOctets, nodeFlags, held};
 ghost use Rattle.store.specs.Promises.{FreshLeft};
@@ -55,7 +66,7 @@ fn state_number(state: State) -> u8
     }
 }
 
-pub fn node_at(octets: &[u8; 21], flags: &[bool; 12]) -> Node
+pub fn node_at(octets: &Octets, flags: &Flags) -> Node
     ensures { λ r. ⌜ r ≡ nodeAt (now (octets .entry)) (now (flags .entry)) ⌝ }
 {
     let number = octets[STATE];
@@ -71,7 +82,7 @@ pub fn node_at(octets: &[u8; 21], flags: &[bool; 12]) -> Node
     }
 }
 
-pub fn set_node(octets: &mut [u8; 21], flags: &mut [bool; 12], new: Node)
+pub fn set_node(octets: &mut Octets, flags: &mut Flags, new: Node)
     ensures { λ _. ⌜ (now (octets .exit) ≡ nodeOctets (now (octets .entry)) new) ×
         (now (flags .exit) ≡ nodeFlags (now (flags .entry)) new) ⌝ }
 {
@@ -88,12 +99,12 @@ pub fn set_node(octets: &mut [u8; 21], flags: &mut [bool; 12], new: Node)
 
 // Every object at its default.
 pub fn set_fresh(
-    octets: &mut [u8; 21],
-    flags: &mut [bool; 12],
-    words: &mut [u64; 28],
-    limits: &mut [i32; 32],
-    deltas: &mut [u32; 48],
-    values: &mut [i16; 56],
+    octets: &mut Octets,
+    flags: &mut Flags,
+    words: &mut Words,
+    limits: &mut Limits,
+    deltas: &mut Deltas,
+    values: &mut Values,
     number: u8,
 )
     ensures { λ _. ⌜ FreshLeft number
@@ -101,14 +112,14 @@ pub fn set_fresh(
         (now (values .exit))) ⌝ }
 {
     // Every selection is 7.
-    *octets = [7; 21];
+    *octets = [7; OCTETS];
     set_sources(octets, 0);
-    *flags = [false; 12];
+    *flags = [false; FLAGS];
     let node = fresh(number);
     set_node(octets, flags, node);
     set_modes(flags);
     machines::fresh(words);
-    *limits = [0; 32];
-    *deltas = [0; 48];
-    *values = [0; 56];
+    *limits = [0; LIMITS];
+    *deltas = [0; DELTAS];
+    *values = [0; VALUES];
 }

@@ -1,5 +1,6 @@
 // Windows of 1, 8, 16 or 32 lines on the rows, and whole rows.
 use crate::Row;
+use crate::Words;
 ghost use mathlib.Core.Path.{_≡_};
 ghost use lib.ListN.{length};
 ghost use Prim.Native.Nat.{_+_, _*_, _/_, _%_, _^_, _<_};
@@ -26,7 +27,7 @@ fn locate(row: usize, width: usize, sub: usize) -> Place
 }
 
 // The value of a window.
-pub fn get(words: &[u64; 28], row: usize, width: usize, sub: usize) -> u32
+pub fn get(words: &Words, row: usize, width: usize, sub: usize) -> u32
     requires { ⌜ Covers row width sub ⌝ }
     ensures { λ r. ⌜ r ≡ window (now (words .entry)) row width sub ⌝ }
 {
@@ -38,7 +39,7 @@ pub fn get(words: &[u64; 28], row: usize, width: usize, sub: usize) -> u32
 }
 
 // A window's value is replaced.
-pub fn put(words: &mut [u64; 28], row: usize, width: usize, sub: usize, value: u32)
+pub fn put(words: &mut Words, row: usize, width: usize, sub: usize, value: u32)
     requires { ⌜ length (now words) ≡ 28 ⌝ }
     requires { ⌜ Covers row width sub ⌝ }
     requires { ⌜ value < 2 ^ width ⌝ }
@@ -52,14 +53,7 @@ pub fn put(words: &mut [u64; 28], row: usize, width: usize, sub: usize, value: u
 }
 
 // The same where the line of the row `gate` is 1.
-pub fn put_masked(
-    words: &mut [u64; 28],
-    row: usize,
-    gate: usize,
-    width: usize,
-    sub: usize,
-    value: u32,
-)
+pub fn put_masked(words: &mut Words, row: usize, gate: usize, width: usize, sub: usize, value: u32)
     requires { ⌜ length (now words) ≡ 28 ⌝ }
     requires { ⌜ Covers row width sub ⌝ }
     requires { ⌜ gate < 14 ⌝ }
@@ -72,7 +66,7 @@ pub fn put_masked(
 }
 
 // A whole row.
-pub fn row(words: &[u64; 28], a: usize) -> Row
+pub fn row(words: &Words, a: usize) -> Row
     requires { ⌜ a < 14 ⌝ }
     ensures { λ r. ⌜ RowOf (now (words .entry)) a r ⌝ }
 {
@@ -84,7 +78,7 @@ pub fn row(words: &[u64; 28], a: usize) -> Row
 }
 
 // A whole row is replaced.
-pub fn set_row(words: &mut [u64; 28], a: usize, new: Row)
+pub fn set_row(words: &mut Words, a: usize, new: Row)
     requires { ⌜ length (now words) ≡ 28 ⌝ }
     requires { ⌜ a < 14 ⌝ }
     ensures { λ _. ⌜ Lined (now (words .exit)) (rowSet (now (words .entry)) a new) ⌝ }

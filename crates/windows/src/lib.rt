@@ -5,6 +5,12 @@ pub mod access;
 // One row of lines.
 pub mod rows;
 
+// How many words the rows take.
+pub const WORDS: usize = 28;
+
+// The array that the device lends.
+pub type Words = [u64; WORDS];
+
 // One row of 128 lines.
 pub struct Row {
     pub low: u64,
