@@ -78,7 +78,7 @@ extern "C" {
 #define IO401_ANALOGUE_OUTPUTS 8u
 #define IO401_LONGEST_ENTRY 4u     /* bytes; no entry of the dictionary has more */
 
-/* Elements of a device's arrays, as in crates/device/src/lib.rt. */
+/* Elements of a device's arrays, as in crates/channels/src/fields.rt and crates/windows/src/lib.rt. */
 #define IO401_OCTETS 21
 #define IO401_FLAGS 12
 #define IO401_WORDS 28
