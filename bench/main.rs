@@ -5,17 +5,30 @@
 mod calls;
 #[path = "../compare/fast.rs"]
 mod fast;
+#[path = "../compare/fast_entries.rs"]
+mod fast_entries;
 #[path = "../compare/fast_kinds.rs"]
 mod fast_kinds;
+#[path = "../compare/fast_mappings.rs"]
+mod fast_mappings;
 #[path = "../compare/library.rs"]
 mod library;
 #[allow(dead_code)]
 #[path = "../compare/lists.rs"]
 mod lists;
+#[path = "../compare/lists_entries.rs"]
+mod lists_entries;
+#[allow(dead_code)]
+#[path = "../compare/lists_mappings.rs"]
+mod lists_mappings;
 #[path = "../compare/paper.rs"]
 mod paper;
+#[path = "../compare/paper_entries.rs"]
+mod paper_entries;
 #[path = "../compare/paper_machines.rs"]
 mod paper_machines;
+#[path = "../compare/paper_mappings.rs"]
+mod paper_mappings;
 #[path = "../compare/paper_objects.rs"]
 mod paper_objects;
 mod rows;

@@ -1,6 +1,6 @@
 //! The lists that are measured: a row for each kind of call, and a realistic mix.
 
-use crate::calls::{Call, Cause, Lent};
+use crate::calls::{Call, Cause, Lent, Message};
 use crate::lists::Random;
 
 pub struct Row {
@@ -10,7 +10,7 @@ pub struct Row {
 
 pub const LENGTH: usize = 400;
 
-pub const ROWS: [Row; 13] = [
+pub const ROWS: [Row; 17] = [
     // An empty list stands for creates, which start from no device.
     Row { name: "create", calls: |_| Vec::new() },
     Row { name: "read lines", calls: read_lines },
@@ -24,14 +24,25 @@ pub const ROWS: [Row; 13] = [
     Row { name: "command", calls: commands },
     Row { name: "raise and clear", calls: |_| causes() },
     Row { name: "drive", calls: |_| vec![drive(); LENGTH] },
+    Row { name: "receive, 8 entries", calls: |random| receives(random, Message::One) },
+    Row { name: "receive, one entry", calls: |random| receives(random, Message::Two) },
+    Row { name: "transmit, 8 entries", calls: |_| vec![transmit(Message::One); LENGTH] },
+    Row { name: "transmit, one entry", calls: |_| vec![transmit(Message::Two); LENGTH] },
     Row { name: "mix", calls: mix },
 ];
 
-/// Operational, analogue events on, a filter on the first sixteen lines, a delta of 10.
+/// Operational, analogue events on, a filter on the first sixteen lines, a delta of 10; eight bytes mapped
+/// for message 1 and one for message 2, byte by byte, so that a full frame has as many entries as it can.
 pub fn set_up() -> Vec<Call> {
     let mut calls =
         vec![Call::Command { code: 1, node: 0 }, write(0x6423, 0, 1, 1), write(0x6103, 1, 0xFFFF, 2)];
     calls.extend((1..=16).map(|sub| write(0x6426, sub, 10, 4)));
+    for (index, mapped) in [(0x1600, 0x6200), (0x1A00, 0x6000)] {
+        calls.extend((1..=8).map(|sub| write(index, sub, mapped << 16 | u32::from(sub) << 8 | 8, 4)));
+        calls.push(write(index, 0, 8, 1));
+        calls.push(write(index + 1, 1, mapped << 16 | 1 << 8 | 8, 4));
+        calls.push(write(index + 1, 0, 1, 1));
+    }
     calls
 }
 
@@ -127,6 +138,19 @@ fn causes() -> Vec<Call> {
 
 fn drive() -> Call {
     Call::Drive { lines: Lent::new([0; 24], 16), channels: Lent::new([0; 24], 8) }
+}
+
+/// Frames of eight bytes, of which a mapping of one entry reads the first.
+fn receives(random: &mut Random, message: Message) -> Vec<Call> {
+    let one = |_| {
+        let frame = Lent::new(std::array::from_fn(|_| random.next() as u8), 8);
+        Call::Receive { message, frame }
+    };
+    (0..LENGTH).map(one).collect()
+}
+
+fn transmit(message: Message) -> Call {
+    Call::Transmit { message, frame: Lent::new([0; 24], 8) }
 }
 
 /// A sample and a drive every tick, a write every tenth, a read every fourth.

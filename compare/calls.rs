@@ -1,9 +1,22 @@
-//! The eight calls as every implementation offers them, and one call with its lent buffers.
+//! The calls as every implementation offers them, and one call with its lent buffers.
 
 #[derive(Clone, Copy, Debug, PartialEq)]
 pub enum Cause {
     InternalFailure,
     CommunicationLoss,
+}
+
+/// One of the four messages of a direction: 1 is 1600 or 1A00, 4 is 1603 or 1A03.
+#[derive(Clone, Copy, Debug, PartialEq)]
+pub enum Message {
+    One,
+    Two,
+    Three,
+    Four,
+}
+
+impl Message {
+    pub const ALL: [Message; 4] = [Message::One, Message::Two, Message::Three, Message::Four];
 }
 
 /// What a call answers beside the device and the lent buffers.
@@ -16,6 +29,8 @@ pub struct Answer {
     pub size: usize,
     /// Bit n - 1 for analogue input n.
     pub events: u16,
+    /// How many bytes a transmit wrote.
+    pub count: usize,
 }
 
 impl Answer {
@@ -33,6 +48,8 @@ pub trait Machine: Clone {
     fn raise(&mut self, cause: Cause) -> Answer;
     fn clear(&mut self, cause: Cause) -> Answer;
     fn drive(&mut self, lines: &mut [u8], channels: &mut [i16]) -> Answer;
+    fn receive(&mut self, message: Message, frame: &[u8]) -> Answer;
+    fn transmit(&mut self, message: Message, frame: &mut [u8]) -> Answer;
 }
 
 /// A lent buffer of any length up to 24.
@@ -65,6 +82,8 @@ pub enum Call {
     Raise(Cause),
     Clear(Cause),
     Drive { lines: Lent<u8>, channels: Lent<i16> },
+    Receive { message: Message, frame: Lent<u8> },
+    Transmit { message: Message, frame: Lent<u8> },
 }
 
 impl Call {
@@ -80,6 +99,8 @@ impl Call {
             Call::Raise(cause) => device.raise(*cause),
             Call::Clear(cause) => device.clear(*cause),
             Call::Drive { lines, channels } => device.drive(lines.part_mut(), channels.part_mut()),
+            Call::Receive { message, frame } => device.receive(*message, frame.part()),
+            Call::Transmit { message, frame } => device.transmit(*message, frame.part_mut()),
         }
     }
 }

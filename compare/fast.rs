@@ -1,8 +1,10 @@
-//! Document 01 for speed: rows of 128 bits, the device changed in place, an index found by one
-//! load, driven outputs computed when they are asked for.
+//! Document 01 and Item 1 of document 02 for speed: rows of 128 bits, the device changed in place, an
+//! index found by one load, driven outputs computed when they are asked for.
 
-use crate::calls::{Answer, Cause, Machine};
+use crate::calls::{Answer, Cause, Machine, Message};
+use crate::fast_entries::number_of;
 use crate::fast_kinds::*;
+use crate::fast_mappings::{Mapping, Part, FIRST_TRANSMIT, MAPPINGS};
 
 const PRE_OPERATIONAL: u8 = 0;
 const OPERATIONAL: u8 = 1;
@@ -12,20 +14,20 @@ const INTERNAL_FAILURE: u8 = 1;
 const COMMUNICATION_LOSS: u8 = 2;
 
 /// 128 lines, line 1 the lowest bit of the first word.
-type Row = [u64; 2];
+pub type Row = [u64; 2];
 
 // The rows of the table, then what only the machines know.
-const INPUT: usize = 0;
-const INPUT_POLARITY: usize = 1;
+pub const INPUT: usize = 0;
+pub const INPUT_POLARITY: usize = 1;
 const INPUT_FILTER: usize = 2;
 const ANY_CHANGE: usize = 3;
 const LOW_TO_HIGH: usize = 4;
 const HIGH_TO_LOW: usize = 5;
-const OUTPUT: usize = 6;
+pub const OUTPUT: usize = 6;
 const OUTPUT_POLARITY: usize = 7;
 const ERROR_MODE: usize = 8;
 const ERROR_VALUE: usize = 9;
-const FILTER_MASK: usize = 10;
+pub const FILTER_MASK: usize = 10;
 const COUNT_ONE: usize = 11;
 const COUNT_TWO: usize = 12;
 const HELD: usize = 13;
@@ -33,23 +35,24 @@ const ROWS: usize = 14;
 
 #[derive(Clone)]
 pub struct Device {
-    rows: [Row; ROWS],
+    pub rows: [Row; ROWS],
     /// U, L, D, N, P by channel.
-    limits: [[u32; 16]; 5],
-    selections: [u8; 16],
-    values: [i16; 16],
-    references: [i16; 16],
-    sources: u16,
-    kept: [i16; 8],
-    errors: [i16; 8],
-    held: [i16; 8],
-    modes: u8,
-    node: u8,
-    state: u8,
-    causes: u8,
-    error_behaviour: u8,
-    digital_interrupts: u8,
-    analogue_interrupts: u8,
+    pub limits: [[u32; 16]; 5],
+    pub selections: [u8; 16],
+    pub values: [i16; 16],
+    pub references: [i16; 16],
+    pub sources: u16,
+    pub kept: [i16; 8],
+    pub errors: [i16; 8],
+    pub held: [i16; 8],
+    pub modes: u8,
+    pub node: u8,
+    pub state: u8,
+    pub causes: u8,
+    pub error_behaviour: u8,
+    pub digital_interrupts: u8,
+    pub analogue_interrupts: u8,
+    pub mappings: [Mapping; MAPPINGS],
 }
 
 impl Device {
@@ -75,6 +78,7 @@ impl Device {
             error_behaviour: 0,
             digital_interrupts: 1,
             analogue_interrupts: 0,
+            mappings: [Mapping::EMPTY; MAPPINGS],
         }
     }
 
@@ -101,75 +105,6 @@ impl Device {
         if !before && self.in_fault() {
             self.hold();
         }
-    }
-
-    fn digital_value(&self, kind: u8, sub: u8) -> u32 {
-        let (row, word, shift, ones) = window(kind, sub);
-        let mut bits = self.rows[row][word];
-        if row == INPUT {
-            bits ^= self.rows[INPUT_POLARITY][word];
-        }
-        (bits >> shift & ones) as u32
-    }
-
-    fn digital_store(&mut self, kind: u8, sub: u8, value: u32) {
-        let (row, word, shift, ones) = window(kind, sub);
-        let mut places = ones << shift;
-        if row == OUTPUT {
-            places &= self.rows[FILTER_MASK][word];
-        }
-        let bits = &mut self.rows[row][word];
-        *bits = (*bits & !places) | (u64::from(value) << shift & places);
-    }
-
-    fn value(&mut self, kind: u8, sub: u8) -> u32 {
-        let n = usize::from(sub).wrapping_sub(1);
-        match kind {
-            DIGITAL..DIGITAL_INTERRUPTS => self.digital_value(kind, sub),
-            DIGITAL_INTERRUPTS => u32::from(self.digital_interrupts),
-            VALUE => u32::from(self.values[n] as u16),
-            SELECTION => u32::from(self.selections[n]),
-            SOURCE => u32::from(std::mem::take(&mut self.sources)),
-            ANALOGUE_INTERRUPTS => u32::from(self.analogue_interrupts),
-            LIMIT..OUTPUT_VALUE => self.limits[usize::from(kind - LIMIT)][n],
-            OUTPUT_VALUE => u32::from(self.kept[n] as u16),
-            OUTPUT_MODE => u32::from(self.modes >> n & 1),
-            OUTPUT_ERROR => i32::from(self.errors[n]) as u32,
-            DEVICE_TYPE => 0x000F_0191,
-            ERROR_REGISTER => [0, 0x01, 0x11, 0x11][usize::from(self.causes)],
-            _ => u32::from(self.error_behaviour),
-        }
-    }
-
-    /// The abort code where the value is refused, else 0.
-    fn store(&mut self, kind: u8, sub: u8, value: u32) -> u32 {
-        let n = usize::from(sub).wrapping_sub(1);
-        let last = match kind {
-            DIGITAL..DIGITAL_INTERRUPTS if (kind - DIGITAL) % 4 == 0 => 1,
-            DIGITAL_INTERRUPTS | ANALOGUE_INTERRUPTS | OUTPUT_MODE => 1,
-            SELECTION => 31,
-            ERROR_BEHAVIOUR => 2,
-            _ => u32::MAX,
-        };
-        if value > last {
-            return 0x0609_0030;
-        }
-        match kind {
-            DIGITAL..DIGITAL_INTERRUPTS => self.digital_store(kind, sub, value),
-            DIGITAL_INTERRUPTS => self.digital_interrupts = value as u8,
-            SELECTION => self.selections[n] = value as u8,
-            ANALOGUE_INTERRUPTS => self.analogue_interrupts = value as u8,
-            LIMIT..OUTPUT_VALUE => self.limits[usize::from(kind - LIMIT)][n] = value,
-            OUTPUT_VALUE => self.kept[n] = value as i16,
-            OUTPUT_MODE => self.modes = (self.modes & !(1 << n)) | ((value as u8) << n),
-            OUTPUT_ERROR => match i16::try_from(value as i32) {
-                Ok(error) => self.errors[n] = error,
-                Err(_) if (value as i32) > 0 => return 0x0609_0031,
-                Err(_) => return 0x0609_0032,
-            },
-            _ => self.error_behaviour = value as u8,
-        }
-        0
     }
 
     /// The digital events.
@@ -238,12 +173,14 @@ impl Machine for Device {
         if sub > last {
             return Answer::refused(0x0609_0011);
         }
-        let (value, size) = if sub == 0 && last != 0 {
+        let (value, size) = if kind >= MAPPING {
+            self.mappings[usize::from(kind - MAPPING)].read(sub)
+        } else if sub == 0 && last != 0 {
             (u32::from(last), 1)
         } else {
             (self.value(kind, sub), usize::from(size))
         };
-        Answer { number: 0, value, size, events: 0 }
+        Answer { value, size, ..Answer::default() }
     }
 
     fn write(&mut self, index: u16, sub: u8, data: &[u8]) -> Answer {
@@ -258,21 +195,17 @@ impl Machine for Device {
         if sub > last {
             return Answer::refused(0x0609_0011);
         }
+        if kind >= MAPPING {
+            return Answer::refused(self.write_mapping(usize::from(kind - MAPPING), sub, data));
+        }
         let read_only = matches!(kind, 1..=4 | VALUE | SOURCE | DEVICE_TYPE | ERROR_REGISTER);
         if read_only || (sub == 0 && last != 0) {
             return Answer::refused(0x0601_0002);
         }
-        if data.len() != usize::from(size) {
-            let long = data.len() > usize::from(size);
-            return Answer::refused(if long { 0x0607_0012 } else { 0x0607_0013 });
+        match number_of(data, usize::from(size)) {
+            Ok(value) => Answer::refused(self.store(kind, sub, value)),
+            Err(refusal) => Answer::refused(refusal),
         }
-        let value = match *data {
-            [a] => u32::from(a),
-            [a, b] => u32::from(u16::from_le_bytes([a, b])),
-            [a, b, c, d] => u32::from_le_bytes([a, b, c, d]),
-            _ => 0,
-        };
-        Answer::refused(self.store(kind, sub, value))
     }
 
     fn sample(&mut self, digital: &[u8], analogue: &[i16], events: &mut [u8]) -> Answer {
@@ -306,6 +239,7 @@ impl Machine for Device {
                 129 => *self = Device::fresh(self.node),
                 _ => {
                     self.error_behaviour = 0;
+                    self.mappings = [Mapping::EMPTY; MAPPINGS];
                     self.change_node(PRE_OPERATIONAL, self.causes & !COMMUNICATION_LOSS);
                 }
             }
@@ -350,5 +284,46 @@ impl Machine for Device {
         *lines = (u128::from(low) | u128::from(high) << 64).to_le_bytes();
         *channels = if fault { self.held } else { self.kept };
         Answer::default()
+    }
+
+    fn receive(&mut self, message: Message, frame: &[u8]) -> Answer {
+        let mapping = self.mappings[message as usize];
+        let Some(mapped) = frame.get(..mapping.bytes()).filter(|_| self.state == OPERATIONAL) else {
+            return Answer::default();
+        };
+        let mut bytes = [0; 8];
+        bytes[..mapped.len()].copy_from_slice(mapped);
+        let mut rest = u64::from_le_bytes(bytes);
+        for Part { kind, sub, bits } in mapping.parts() {
+            // Bits above the entry's are cut off where it is stored.
+            match kind {
+                OUTPUT_VALUE => self.kept[usize::from(sub - 1)] = rest as i16,
+                _ => self.digital_store(kind, sub, rest as u32),
+            }
+            rest >>= bits;
+        }
+        Answer::default()
+    }
+
+    fn transmit(&mut self, message: Message, frame: &mut [u8]) -> Answer {
+        let Ok(frame) = <&mut [u8; 8]>::try_from(frame) else {
+            return Answer::refused(5);
+        };
+        if self.state != OPERATIONAL {
+            return Answer::default();
+        }
+        let mapping = self.mappings[FIRST_TRANSMIT + message as usize];
+        let (mut all, mut start) = (0u64, 0);
+        for Part { kind, sub, bits } in mapping.parts() {
+            let value = match kind {
+                VALUE => u32::from(self.values[usize::from(sub - 1)] as u16),
+                _ => self.digital_value(kind, sub),
+            };
+            all |= u64::from(value) << start;
+            start += bits;
+        }
+        let count = mapping.bytes();
+        frame[..count].copy_from_slice(&all.to_le_bytes()[..count]);
+        Answer { count, ..Answer::default() }
     }
 }

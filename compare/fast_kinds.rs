@@ -3,6 +3,10 @@
 // The kinds of an index, 1 + 4 row + width for the digital table.
 pub const NONE: u8 = 0;
 pub const DIGITAL: u8 = 1;
+pub const INPUT_8: u8 = 2;
+pub const INPUT_32: u8 = 4;
+pub const OUTPUT_8: u8 = 26;
+pub const OUTPUT_32: u8 = 28;
 pub const DIGITAL_INTERRUPTS: u8 = 45;
 pub const VALUE: u8 = 46;
 pub const SELECTION: u8 = 47;
@@ -15,6 +19,9 @@ pub const OUTPUT_ERROR: u8 = 57;
 pub const DEVICE_TYPE: u8 = 58;
 pub const ERROR_REGISTER: u8 = 59;
 pub const ERROR_BEHAVIOUR: u8 = 60;
+/// 1600 to 1603, then 1A00 to 1A03.
+pub const MAPPING: u8 = 61;
+const KINDS_ALL: usize = 69;
 
 pub const fn kinds() -> [u8; 0x445] {
     let indices: [[usize; 4]; 11] = [
@@ -56,8 +63,8 @@ pub const fn kinds() -> [u8; 0x445] {
 pub static KINDS: [u8; 0x445] = kinds();
 
 /// By kind: the last sub-index; the size of an entry that is no count.
-pub const fn shapes() -> [(u8, u8); 61] {
-    let mut shapes = [(0, 1); 61];
+pub const fn shapes() -> [(u8, u8); KINDS_ALL] {
+    let mut shapes = [(0, 1); KINDS_ALL];
     let mut at = 0;
     while at < 44 {
         shapes[at + 1] = [(128, 1), (16, 1), (8, 2), (4, 4)][at % 4];
@@ -76,10 +83,15 @@ pub const fn shapes() -> [(u8, u8); 61] {
     shapes[OUTPUT_ERROR as usize] = (8, 4);
     shapes[DEVICE_TYPE as usize] = (0, 4);
     shapes[ERROR_BEHAVIOUR as usize] = (1, 1);
+    let mut mapping = MAPPING as usize;
+    while mapping < KINDS_ALL {
+        shapes[mapping] = (8, 4);
+        mapping += 1;
+    }
     shapes
 }
 
-pub static SHAPES: [(u8, u8); 61] = shapes();
+pub static SHAPES: [(u8, u8); KINDS_ALL] = shapes();
 
 pub fn kind(index: u16) -> u8 {
     match KINDS.get(usize::from(index.wrapping_sub(0x6000))) {
@@ -88,6 +100,8 @@ pub fn kind(index: u16) -> u8 {
             0x1000 => DEVICE_TYPE,
             0x1001 => ERROR_REGISTER,
             0x1029 => ERROR_BEHAVIOUR,
+            0x1600..=0x1603 => MAPPING + (index - 0x1600) as u8,
+            0x1A00..=0x1A03 => MAPPING + 4 + (index - 0x1A00) as u8,
             _ => NONE,
         },
     }

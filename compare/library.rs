@@ -1,6 +1,6 @@
 //! The static library io401, called as C calls it: the arrays of a device by pointer, slices as pointer and length.
 
-use crate::calls::{Answer, Cause, Machine};
+use crate::calls::{Answer, Cause, Machine, Message};
 
 #[derive(Clone, Copy)]
 #[repr(C)]
@@ -9,7 +9,7 @@ pub struct Device {
     flags: [bool; 12],
     words: [u64; 28],
     limits: [i32; 32],
-    deltas: [u32; 48],
+    deltas: [u32; 120],
     values: [i16; 56],
 }
 
@@ -26,11 +26,17 @@ struct Sample {
     events: u16,
 }
 
+#[repr(C)]
+struct Transmit {
+    number: u32,
+    count: usize,
+}
+
 type Octets = *mut [u8; 21];
 type Flags = *mut [bool; 12];
 type Words = *mut [u64; 28];
 type Limits = *mut [i32; 32];
-type Deltas = *mut [u32; 48];
+type Deltas = *mut [u32; 120];
 type Values = *mut [i16; 56];
 
 unsafe extern "C" {
@@ -47,6 +53,12 @@ unsafe extern "C" {
     fn io401_raise_arrays(o: Octets, f: Flags, w: Words, v: Values, loss: bool) -> u32;
     fn io401_clear_arrays(o: Octets, f: Flags, w: Words, v: Values, loss: bool) -> u32;
     fn io401_drive_arrays(w: Words, v: Values, lines: *mut u8, lines_length: usize, channels: *mut i16, channels_length: usize) -> u32;
+    fn io401_receive_arrays(
+        o: Octets, f: Flags, w: Words, l: Limits, d: Deltas, v: Values, second_pair: bool, second: bool, frame: *const u8, length: usize,
+    ) -> u32;
+    fn io401_transmit_arrays(
+        o: Octets, f: Flags, w: Words, l: Limits, d: Deltas, v: Values, second_pair: bool, second: bool, frame: *mut u8, length: usize,
+    ) -> Transmit;
 }
 
 // The calls that take all six. Every pointer is that of a live array or slice, and no two overlap; so below.
@@ -57,16 +69,26 @@ macro_rules! call {
     }};
 }
 
+/// Whether it is one of the last two, and whether it is the second of its two.
+fn pair_and_place(message: Message) -> (bool, bool) {
+    match message {
+        Message::One => (false, false),
+        Message::Two => (false, true),
+        Message::Three => (true, false),
+        Message::Four => (true, true),
+    }
+}
+
 impl Machine for Device {
     fn create(number: u8) -> (u32, Device) {
-        let mut d = Device { octets: [0; 21], flags: [false; 12], words: [0; 28], limits: [0; 32], deltas: [0; 48], values: [0; 56] };
+        let mut d = Device { octets: [0; 21], flags: [false; 12], words: [0; 28], limits: [0; 32], deltas: [0; 120], values: [0; 56] };
         let refused = call!(io401_create_arrays, &mut d, number);
         (refused, d)
     }
 
     fn read(&mut self, index: u16, sub: u8) -> Answer {
         let done = call!(io401_read_arrays, self, index, sub);
-        Answer { number: done.number, value: done.value, size: done.size, events: 0 }
+        Answer { value: done.value, size: done.size, ..Answer::refused(done.number) }
     }
 
     fn write(&mut self, index: u16, sub: u8, data: &[u8]) -> Answer {
@@ -102,5 +124,16 @@ impl Machine for Device {
         Answer::refused(unsafe {
             io401_drive_arrays(&mut self.words, &mut self.values, l, lines.len(), c, channels.len())
         })
+    }
+
+    fn receive(&mut self, message: Message, frame: &[u8]) -> Answer {
+        let (second_pair, second) = pair_and_place(message);
+        Answer::refused(call!(io401_receive_arrays, self, second_pair, second, frame.as_ptr(), frame.len()))
+    }
+
+    fn transmit(&mut self, message: Message, frame: &mut [u8]) -> Answer {
+        let (second_pair, second) = pair_and_place(message);
+        let done = call!(io401_transmit_arrays, self, second_pair, second, frame.as_mut_ptr(), frame.len());
+        Answer { count: done.count, ..Answer::refused(done.number) }
     }
 }

@@ -2,6 +2,7 @@
 //! that most calls do something. The same seed makes the same list.
 
 use crate::calls::{Call, Cause, Lent};
+use crate::lists_mappings::{Plans, MAPPINGS};
 
 /// SplitMix64.
 pub struct Random(u64);
@@ -33,7 +34,7 @@ impl Random {
     }
 }
 
-/// An object of the dictionary: index, last sub-index, size of an entry in bytes.
+/// An object of the dictionary: index, last sub-index, size of an entry at 1 or above in bytes.
 #[derive(Clone, Copy)]
 pub struct Object {
     pub index: u16,
@@ -41,7 +42,10 @@ pub struct Object {
     pub size: usize,
 }
 
-/// Every object of document 01.
+/// How many digital objects stand first.
+pub const DIGITAL_OBJECTS: usize = 44;
+
+/// Every object of document 01, then the mappings.
 pub fn objects() -> Vec<Object> {
     let mut all = Vec::new();
     let one_bit = [0x6020, 0x6030, 0x6038, 0x6050, 0x6060, 0x6070, 0x6220, 0x6240, 0x6250, 0x6260, 0x6270];
@@ -65,14 +69,18 @@ pub fn objects() -> Vec<Object> {
     {
         all.push(Object { index, last, size });
     }
+    all.extend(MAPPINGS.map(|index| Object { index, last: 8, size: 4 }));
     all
 }
 
 /// What a list is drawn from; it remembers the lines and channels last sampled, so that few change.
 pub struct Source {
-    random: Random,
-    objects: Vec<Object>,
+    pub random: Random,
+    pub plans: Plans,
+    pub objects: Vec<Object>,
     number: u8,
+    /// Commands mostly start the node, so that mappings last; in other lists any command comes as often.
+    steady: bool,
     lines: [u8; 16],
     channels: [i16; 16],
 }
@@ -81,7 +89,9 @@ impl Source {
     pub fn new(seed: u64) -> Source {
         let mut random = Random::new(seed);
         let number = if random.chance(5) { random.next() as u8 } else { 1 + random.below(127) as u8 };
-        Source { random, objects: objects(), number, lines: [0; 16], channels: [0; 16] }
+        let steady = random.chance(60);
+        let plans = Plans::new();
+        Source { random, plans, objects: objects(), number, steady, lines: [0; 16], channels: [0; 16] }
     }
 
     /// The argument of create.
@@ -90,14 +100,19 @@ impl Source {
     }
 
     pub fn call(&mut self) -> Call {
+        // What is planned is soon done, with other calls in between.
+        if self.something_is_planned() && self.random.chance(50) {
+            return self.mapping_call();
+        }
         match self.random.below(100) {
-            0..30 => self.write(),
-            30..48 => self.read(),
-            48..80 => self.sample(),
-            80..87 => self.command(),
-            87..90 => Call::Raise(self.cause()),
-            90..94 => Call::Clear(self.cause()),
-            _ => self.drive(),
+            0..22 => self.write(),
+            22..36 => self.read(),
+            36..58 => self.sample(),
+            58..63 => self.command(),
+            63..65 => Call::Raise(self.cause()),
+            65..68 => Call::Clear(self.cause()),
+            68..74 => self.drive(),
+            _ => self.mapping_call(),
         }
     }
 
@@ -105,7 +120,7 @@ impl Source {
         self.random.pick(&[Cause::InternalFailure, Cause::CommunicationLoss])
     }
 
-    fn bytes(&mut self) -> [u8; 24] {
+    pub fn bytes(&mut self) -> [u8; 24] {
         std::array::from_fn(|_| self.random.next() as u8)
     }
 
@@ -126,9 +141,9 @@ impl Source {
     fn entry(&mut self) -> (Object, u8) {
         // Digital, analogue, device-wide, in the order of `objects`.
         let at = match self.random.below(10) {
-            0..5 => self.random.below(44),
-            5..9 => 44 + self.random.below(10),
-            _ => 54 + self.random.below(6),
+            0..5 => self.random.below(DIGITAL_OBJECTS),
+            5..9 => DIGITAL_OBJECTS + self.random.below(10),
+            _ => DIGITAL_OBJECTS + 10 + self.random.below(6),
         };
         let mut object = self.objects[at];
         if self.random.chance(3) {
@@ -235,6 +250,7 @@ impl Source {
 
     pub fn command(&mut self) -> Call {
         let code = match self.random.below(20) {
+            _ if self.steady && self.random.chance(75) => 1,
             0..10 => 1,
             10..12 => 2,
             12..15 => 128,
@@ -244,6 +260,9 @@ impl Source {
         };
         let any = self.random.next() as u8;
         let node = self.random.pick(&[0, 0, self.number, self.number, self.number, any & 127, any]);
+        if matches!(code, 129 | 130) && (node == 0 || node == self.number) {
+            self.plans.forget();
+        }
         Call::Command { code, node }
     }
 

@@ -3,37 +3,58 @@
 
 mod calls;
 mod fast;
+mod fast_entries;
 mod fast_kinds;
+mod fast_mappings;
 mod library;
 mod lists;
+mod lists_entries;
+mod lists_mappings;
 mod paper;
+mod paper_entries;
 mod paper_machines;
+mod paper_mappings;
 mod paper_objects;
 
-use calls::{Answer, Call, Cause, Lent, Machine};
+use calls::{Answer, Call, Cause, Lent, Machine, Message};
 use lists::{Object, Random, Source};
 
 const CALLS_OF_A_LIST: u64 = 1000;
 
-/// What an implementation says of all its entries and outputs, without being changed by it: a
-/// copy is taken out of the stopped state, read, driven, and driven again with no cause present.
-fn read_back<M: Machine>(device: &M, objects: &[Object]) -> (Vec<Answer>, [Call; 3]) {
+/// Answers, and calls with the buffers as they were left.
+type Told = (Vec<Answer>, Vec<Call>);
+
+fn played<M: Machine>(mut call: Call, device: &mut M, told: &mut Told) {
+    told.0.push(call.play(device));
+    told.1.push(call);
+}
+
+/// What an implementation says of all its entries, outputs and mappings, without being changed by it: a
+/// copy is taken out of the stopped state, read, driven, and driven again with no cause present; then it
+/// is started, and each message is sent and obeyed.
+fn read_back<M: Machine>(device: &M, objects: &[Object]) -> Told {
     let drive = Call::Drive { lines: Lent::new([0; 24], 16), channels: Lent::new([0; 24], 8) };
-    let mut drives = [drive; 3];
+    let mut told = (Vec::with_capacity(2000), Vec::new());
     let mut copy = device.clone();
-    drives[0].play(&mut copy);
+    played(drive, &mut copy, &mut told);
     copy.command(128, 0);
-    let mut answers = Vec::with_capacity(2000);
     for object in objects {
         for sub in 0..=object.last {
-            answers.push(copy.read(object.index, sub));
+            told.0.push(copy.read(object.index, sub));
         }
     }
-    drives[1].play(&mut copy);
+    played(drive, &mut copy, &mut told);
     copy.clear(Cause::InternalFailure);
     copy.clear(Cause::CommunicationLoss);
-    drives[2].play(&mut copy);
-    (answers, drives)
+    played(drive, &mut copy, &mut told);
+    copy.command(1, 0);
+    for message in Message::ALL {
+        let bytes = std::array::from_fn(|at| 0x5A ^ (at as u8) << 4 ^ message as u8);
+        played(Call::Transmit { message, frame: Lent::new(bytes, 8) }, &mut copy, &mut told);
+        played(Call::Receive { message, frame: Lent::new(bytes, 8) }, &mut copy, &mut told);
+        played(drive, &mut copy, &mut told);
+    }
+    told
 }
 
 /// An implementation beside the paper's, with the name it is blamed by.
@@ -65,11 +86,42 @@ impl<M: Machine> Beside<M> {
         }
     }
 
-    fn compare_all(&self, paper: &(Vec<Answer>, [Call; 3]), objects: &[Object], place: (u64, u64)) {
+    fn compare_all(&self, paper: &Told, objects: &[Object], place: (u64, u64)) {
         if read_back(&self.device, objects) != *paper {
             println!("{} differs in a read-back, seed {}, after call {}", self.name, place.0, place.1);
             std::process::exit(1);
         }
+    }
+}
+
+/// The paper's implementation and those beside it.
+struct All {
+    paper: paper::Device,
+    fast: Beside<fast::Device>,
+    library: Beside<library::Device>,
+}
+
+impl All {
+    fn create(number: u8) -> All {
+        let (answer, paper) = paper::Device::create(number);
+        let fast = Beside::create("fast", number, answer);
+        let library = Beside::create("library", number, answer);
+        All { paper, fast, library }
+    }
+
+    /// What the paper's implementation answers, and the others too.
+    fn play(&mut self, call: Call, place: (u64, u64)) -> (Call, Answer) {
+        let mut played = call;
+        let answer = played.play(&mut self.paper);
+        self.fast.compare(&call, &(played, answer), place);
+        self.library.compare(&call, &(played, answer), place);
+        (played, answer)
+    }
+
+    fn read_back(&self, objects: &[Object], place: (u64, u64)) {
+        let all = read_back(&self.paper, objects);
+        self.fast.compare_all(&all, objects, place);
+        self.library.compare_all(&all, objects, place);
     }
 }
 
@@ -79,6 +131,10 @@ struct Tally {
     accepted: u64,
     events: u64,
     read_backs: u64,
+    /// Entries of a mapping that were accepted.
+    mapped: u64,
+    /// Bytes that transmits wrote.
+    sent: u64,
 }
 
 fn events_of(call: &Call, answer: &Answer) -> u64 {
@@ -89,27 +145,23 @@ fn events_of(call: &Call, answer: &Answer) -> u64 {
     count
 }
 
+fn maps_an_entry(call: &Call) -> bool {
+    matches!(call, Call::Write { index: 0x1600..=0x1603 | 0x1A00..=0x1A03, sub: 1.., .. })
+}
+
 fn play_list(seed: u64, calls: u64, objects: &[Object], tally: &mut Tally) {
     let mut source = Source::new(seed);
     let mut pauses = Random::new(!seed);
-    let (number, mut paper) = paper::Device::create(source.number());
-    let mut fast = Beside::<fast::Device>::create("fast", source.number(), number);
-    let mut library = Beside::<library::Device>::create("library", source.number(), number);
+    let mut devices = All::create(source.number());
     for at in 0..calls {
-        let call = source.call();
-        let mut played = call;
-        let answer = played.play(&mut paper);
+        let (played, answer) = devices.play(source.call(), (seed, at));
         tally.calls += 1;
         tally.accepted += u64::from(answer.number == 0);
         tally.events += events_of(&played, &answer);
-        let place = (seed, at);
-        let told = (played, answer);
-        fast.compare(&call, &told, place);
-        library.compare(&call, &told, place);
+        tally.mapped += u64::from(answer.number == 0 && maps_an_entry(&played));
+        tally.sent += answer.count as u64;
         if at + 1 == calls || pauses.below(400) == 0 {
-            let all = read_back(&paper, objects);
-            fast.compare_all(&all, objects, place);
-            library.compare_all(&all, objects, place);
+            devices.read_back(objects, (seed, at));
             tally.read_backs += 1;
         }
     }
@@ -117,9 +169,7 @@ fn play_list(seed: u64, calls: u64, objects: &[Object], tally: &mut Tally) {
 
 /// Reads and writes every index there is at a few sub-indices, and a listed one at each.
 fn sweep(objects: &[Object]) -> u64 {
-    let (number, mut paper) = paper::Device::create(1);
-    let mut fast = Beside::<fast::Device>::create("fast", 1, number);
-    let mut library = Beside::<library::Device>::create("library", 1, number);
+    let mut devices = All::create(1);
     let mut calls = 0;
     for index in 0..=u16::MAX {
         let listed = objects.iter().any(|object| object.index == index);
@@ -128,11 +178,31 @@ fn sweep(objects: &[Object]) -> u64 {
             for call in
                 [Call::Read { index, sub }, write(0), write(1), write(2), write(3), write(4), write(5)]
             {
-                let mut played = call;
-                let answer = played.play(&mut paper);
-                fast.compare(&call, &(played, answer), (0, calls));
-                library.compare(&call, &(played, answer), (0, calls));
+                devices.play(call, (0, calls));
                 calls += 1;
+            }
+        }
+    }
+    calls
+}
+
+/// Writes every index there is as an entry of one mapping of each direction, a listed one with every
+/// sub-index and length up to 64 bits.
+fn sweep_entries(objects: &[Object]) -> u64 {
+    let mut devices = All::create(1);
+    let mut calls = 0;
+    for index in 0..=u16::MAX {
+        let listed = objects.iter().any(|object| object.index == index);
+        for sub in (0..=u8::MAX).filter(|sub| listed || *sub < 2) {
+            for bits in (0..=64).filter(|bits| listed || matches!(bits, 0 | 8 | 16 | 32)) {
+                let [low, high] = index.to_le_bytes();
+                let mut bytes = [0; 24];
+                bytes[..4].copy_from_slice(&[bits, sub, low, high]);
+                for mapping in [0x1601, 0x1A02] {
+                    let data = Lent::new(bytes, 4);
+                    devices.play(Call::Write { index: mapping, sub: 3, data }, (0, calls));
+                    calls += 1;
+                }
             }
         }
     }
@@ -150,11 +220,11 @@ fn main() {
     for seed in first..first + lists {
         play_list(seed, CALLS_OF_A_LIST, &objects, &mut tally);
     }
-    let swept = sweep(&objects);
+    let (swept, entries) = (sweep(&objects), sweep_entries(&objects));
     print!("compare: {} calls in {lists} lists (seeds {first} to {}), ", tally.calls, first + lists - 1);
     print!(
-        "{} accepted, {} events, {} read-backs of every entry, ",
-        tally.accepted, tally.events, tally.read_backs
+        "{} accepted, {} events, {} entries mapped, {} bytes sent, {} read-backs of every entry, ",
+        tally.accepted, tally.events, tally.mapped, tally.sent, tally.read_backs
     );
-    println!("{swept} calls on every index: none differs");
+    println!("{swept} calls on every index, {entries} with every index as an entry: none differs");
 }

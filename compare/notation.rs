@@ -1,10 +1,11 @@
 //! The notation of a list of calls, read from its text alone: a line of bytes becomes nothing, a
 //! call with its buffers, expected words, or not understood; a played call becomes its answer line.
 
-use crate::calls::{Answer, Cause, Machine};
+use crate::calls::{Answer, Cause, Machine, Message};
+use crate::notation_messages::{message_call, Complaint};
 
 const MOST_BYTES_OF_A_LINE: usize = 1024;
-const MOST_ITEMS_OF_A_BUFFER: usize = 64;
+pub const MOST_ITEMS_OF_A_BUFFER: usize = 64;
 pub const BYTE_ORDER_MARK: &[u8] = b"\xEF\xBB\xBF";
 
 /// A call with its lent buffers; after it is played they hold what it left in them.
@@ -18,6 +19,8 @@ pub enum Asked {
     Raise(Cause),
     Clear(Cause),
     Drive { lines: Vec<u8>, channels: Vec<i16> },
+    Receive { message: Message, frame: Vec<u8> },
+    Transmit { message: Message, frame: Vec<u8> },
 }
 
 pub enum Line<'a> {
@@ -25,7 +28,7 @@ pub enum Line<'a> {
     Call(Asked),
     /// What the last answer line has to be, word by word.
     Expects(Vec<&'a [u8]>),
-    NotUnderstood,
+    NotUnderstood(Complaint),
 }
 
 /// The lines of a list, each as it stands before its newline; the last may lack the newline.
@@ -54,7 +57,7 @@ pub fn answer_words(text: &[u8]) -> Vec<&[u8]> {
 pub fn understand(line: &[u8]) -> Line<'_> {
     // A carriage return is a byte before the newline, so it counts.
     if line.len() > MOST_BYTES_OF_A_LINE {
-        return Line::NotUnderstood;
+        return Line::NotUnderstood(None);
     }
     // One is passed over, also where the list ends without a newline; a second is a byte like any other.
     let line = line.strip_suffix(b"\r").unwrap_or(line);
@@ -67,7 +70,10 @@ pub fn understand(line: &[u8]) -> Line<'_> {
             let sign = said.iter().position(|byte| *byte == b'>').unwrap_or(0);
             Line::Expects(answer_words(&said[sign + 1..]))
         }
-        Some(_) => call_of(&words).map_or(Line::NotUnderstood, Line::Call),
+        Some(_) => match message_call(&words).unwrap_or_else(|| call_of(&words).ok_or(None)) {
+            Ok(asked) => Line::Call(asked),
+            Err(complaint) => Line::NotUnderstood(complaint),
+        },
     }
 }
 
@@ -145,14 +151,14 @@ fn drive_of(words: &[&[u8]]) -> Option<Asked> {
 }
 
 /// The items of a lent buffer; none where one is wrong or where there are too many.
-fn buffer_of<T>(words: &[&[u8]], item: fn(&[u8]) -> Option<T>) -> Option<Vec<T>> {
+pub fn buffer_of<T>(words: &[&[u8]], item: fn(&[u8]) -> Option<T>) -> Option<Vec<T>> {
     if words.len() > MOST_ITEMS_OF_A_BUFFER {
         return None;
     }
     items_of(words, item)
 }
 
-fn items_of<T>(words: &[&[u8]], item: fn(&[u8]) -> Option<T>) -> Option<Vec<T>> {
+pub fn items_of<T>(words: &[&[u8]], item: fn(&[u8]) -> Option<T>) -> Option<Vec<T>> {
     words.iter().map(|word| item(word)).collect()
 }
 
@@ -167,7 +173,7 @@ fn entry_named(word: &[u8]) -> Option<(u16, u8)> {
     parts.next().is_none().then_some((index, sub))
 }
 
-fn data_byte(word: &[u8]) -> Option<u8> {
+pub fn data_byte(word: &[u8]) -> Option<u8> {
     hexadecimal(word, 2).map(|value| value as u8)
 }
 
@@ -196,7 +202,7 @@ fn signed_number(word: &[u8]) -> Option<i16> {
     i16::try_from(value).ok()
 }
 
-fn decimal(digits: &[u8]) -> Option<i32> {
+pub fn decimal(digits: &[u8]) -> Option<i32> {
     if digits.is_empty() {
         return None;
     }
@@ -224,6 +230,8 @@ impl Asked {
             Asked::Raise(cause) => device.raise(*cause),
             Asked::Clear(cause) => device.clear(*cause),
             Asked::Drive { lines, channels } => device.drive(lines, channels),
+            Asked::Receive { message, frame } => device.receive(*message, frame),
+            Asked::Transmit { message, frame } => device.transmit(*message, frame),
         }
     }
 
@@ -247,6 +255,12 @@ impl Asked {
                 words.extend(bytes_as_words(lines));
                 words.push("/".into());
                 words.extend(channels.iter().map(i16::to_string));
+            }
+            Asked::Transmit { frame, .. } => {
+                words.push("frame".into());
+                words.extend(bytes_as_words(frame));
+                words.push("/".into());
+                words.push(answer.count.to_string());
             }
             _ => {}
         }

@@ -1,19 +1,22 @@
-//! Document 01 line by line: a machine for each line and each channel, which takes every call by
-//! itself, as the paper reads. Slow on purpose.
+//! Document 01 and Item 1 of document 02 line by line: a machine for each line and each channel, which
+//! takes every call by itself, as the paper reads. Slow on purpose.
 
-use crate::calls::{Answer, Cause, Machine};
+use crate::calls::{Answer, Cause, Machine, Message};
 use crate::paper_machines::{
     AnalogueInput, AnalogueOutput, DeviceWide, DigitalInput, DigitalOutput, Node, State,
 };
-use crate::paper_objects::{object, Attribute, Object};
+use crate::paper_mappings::{Direction, Mapping};
+use crate::paper_objects::{object, Object};
 
 #[derive(Clone)]
 pub struct Device {
-    node: Node,
-    digital_inputs: [DigitalInput; 128],
-    digital_outputs: [DigitalOutput; 128],
-    analogue_inputs: [AnalogueInput; 16],
-    analogue_outputs: [AnalogueOutput; 8],
+    pub node: Node,
+    pub digital_inputs: [DigitalInput; 128],
+    pub digital_outputs: [DigitalOutput; 128],
+    pub analogue_inputs: [AnalogueInput; 16],
+    pub analogue_outputs: [AnalogueOutput; 8],
+    receive_mappings: [Mapping; 4],
+    transmit_mappings: [Mapping; 4],
 }
 
 impl Device {
@@ -24,10 +27,12 @@ impl Device {
             digital_outputs: [DigitalOutput::fresh(number); 128],
             analogue_inputs: [AnalogueInput::fresh(number); 16],
             analogue_outputs: [AnalogueOutput::fresh(number); 8],
+            receive_mappings: [Mapping::empty(); 4],
+            transmit_mappings: [Mapping::empty(); 4],
         }
     }
 
-    fn tell_every_machine(&mut self, news: DeviceWide) {
+    pub fn tell_every_machine(&mut self, news: DeviceWide) {
         self.node.take(news);
         if let DeviceWide::Command(129) = news {
             self.node = Node::fresh(self.node.number);
@@ -36,6 +41,15 @@ impl Device {
         self.digital_outputs.iter_mut().for_each(|m| m.take(news));
         self.analogue_inputs.iter_mut().for_each(|m| m.take(news));
         self.analogue_outputs.iter_mut().for_each(|m| m.take(news));
+        self.receive_mappings.iter_mut().for_each(|m| m.take(news));
+        self.transmit_mappings.iter_mut().for_each(|m| m.take(news));
+    }
+
+    pub fn mapping(&mut self, direction: Direction, message: usize) -> &mut Mapping {
+        match direction {
+            Direction::Receive => &mut self.receive_mappings[message],
+            Direction::Transmit => &mut self.transmit_mappings[message],
+        }
     }
 
     fn refusal(&self, index: u16, sub: u8) -> Result<Object, u32> {
@@ -43,147 +57,18 @@ impl Device {
             return Err(0x0800_0022);
         }
         let object = object(index).ok_or(0x0602_0000u32)?;
-        if sub > object.entries().unwrap_or(0) {
+        if sub > object.last_sub_index() {
             return Err(0x0609_0011);
         }
         Ok(object)
     }
 
-    fn line_bit(&self, attribute: Attribute, line: usize) -> bool {
-        let i = &self.digital_inputs[line];
-        let o = &self.digital_outputs[line];
-        match attribute {
-            Attribute::Input => i.reads(),
-            Attribute::InputPolarity => i.polarity,
-            Attribute::InputFilter => i.filter,
-            Attribute::AnyChange => i.any_change,
-            Attribute::LowToHigh => i.low_to_high,
-            Attribute::HighToLow => i.high_to_low,
-            Attribute::Output => o.kept,
-            Attribute::OutputPolarity => o.polarity,
-            Attribute::ErrorMode => o.error_mode,
-            Attribute::ErrorValue => o.error_value,
-            Attribute::OutputFilterMask => o.filter_mask,
-        }
-    }
-
-    fn set_line_bit(&mut self, attribute: Attribute, line: usize, w: bool) {
-        let i = &mut self.digital_inputs[line];
-        let o = &mut self.digital_outputs[line];
-        match attribute {
-            Attribute::Input => unreachable!(),
-            Attribute::InputPolarity => i.polarity = w,
-            Attribute::InputFilter => i.filter = w,
-            Attribute::AnyChange => i.any_change = w,
-            Attribute::LowToHigh => i.low_to_high = w,
-            Attribute::HighToLow => i.high_to_low = w,
-            Attribute::Output => {
-                if o.filter_mask {
-                    o.kept = w;
-                }
-            }
-            Attribute::OutputPolarity => o.polarity = w,
-            Attribute::ErrorMode => o.error_mode = w,
-            Attribute::ErrorValue => o.error_value = w,
-            Attribute::OutputFilterMask => o.filter_mask = w,
-        }
-        o.follow();
-    }
-
-    fn value(&mut self, object: Object, sub: u8) -> u32 {
-        if let (Some(count), 0) = (object.entries(), sub) {
-            return u32::from(count);
-        }
+    fn value_refusal(&mut self, object: Object, sub: u8, value: u32) -> Option<u32> {
         match object {
-            Object::Lines(attribute, width) => {
-                let mut value = 0;
-                for b in 0..width {
-                    // Line w(s - 1) + b + 1 stands at one less.
-                    if self.line_bit(attribute, width * (usize::from(sub) - 1) + b) {
-                        value |= 1 << b;
-                    }
-                }
-                value
+            Object::Mapping(direction, message) => {
+                self.mapping(direction, message).value_refusal(direction, sub, value)
             }
-            Object::DeviceType => 0x000F_0191,
-            Object::ErrorRegister => {
-                let any = self.node.internal_failure || self.node.communication_loss;
-                u32::from(any) | u32::from(self.node.communication_loss) << 4
-            }
-            Object::ErrorBehaviour => u32::from(self.node.error_behaviour),
-            Object::DigitalInterrupts => u32::from(self.node.digital_interrupts),
-            Object::AnalogueInterrupts => u32::from(self.node.analogue_interrupts),
-            Object::InterruptSource => {
-                let mut value = 0;
-                for (n, machine) in self.analogue_inputs.iter_mut().enumerate() {
-                    value |= u32::from(machine.source) << n;
-                    machine.source = false;
-                }
-                value
-            }
-            Object::InputChannel(index) => self.input_value(index, usize::from(sub) - 1),
-            Object::OutputChannel(index) => self.output_value(index, usize::from(sub) - 1),
-        }
-    }
-
-    fn input_value(&self, index: u16, channel: usize) -> u32 {
-        let machine = &self.analogue_inputs[channel];
-        match index {
-            0x6401 => u32::from(machine.last as u16),
-            0x6421 => u32::from(machine.selection),
-            0x6424 => machine.upper as u32,
-            0x6425 => machine.lower as u32,
-            0x6426 => machine.delta,
-            0x6427 => machine.negative_delta,
-            0x6428 => machine.positive_delta,
-            _ => unreachable!(),
-        }
-    }
-
-    fn output_value(&self, index: u16, channel: usize) -> u32 {
-        let machine = &self.analogue_outputs[channel];
-        match index {
-            0x6411 => u32::from(machine.kept as u16),
-            0x6443 => u32::from(machine.error_mode),
-            0x6444 => i32::from(machine.error_value) as u32,
-            _ => unreachable!(),
-        }
-    }
-
-    fn store(&mut self, object: Object, sub: u8, value: u32) {
-        match object {
-            Object::Lines(attribute, width) => {
-                for b in 0..width {
-                    let line = width * (usize::from(sub) - 1) + b;
-                    self.set_line_bit(attribute, line, value >> b & 1 == 1);
-                }
-            }
-            Object::ErrorBehaviour => self.tell_every_machine(DeviceWide::ErrorBehaviour(value as u8)),
-            Object::DigitalInterrupts => self.tell_every_machine(DeviceWide::DigitalInterrupts(value == 1)),
-            Object::AnalogueInterrupts => self.tell_every_machine(DeviceWide::AnalogueInterrupts(value == 1)),
-            Object::InputChannel(index) => {
-                let machine = &mut self.analogue_inputs[usize::from(sub) - 1];
-                match index {
-                    0x6421 => machine.selection = value as u8,
-                    0x6424 => machine.upper = value as i32,
-                    0x6425 => machine.lower = value as i32,
-                    0x6426 => machine.delta = value,
-                    0x6427 => machine.negative_delta = value,
-                    0x6428 => machine.positive_delta = value,
-                    _ => unreachable!(),
-                }
-            }
-            Object::OutputChannel(index) => {
-                let machine = &mut self.analogue_outputs[usize::from(sub) - 1];
-                match index {
-                    0x6411 => machine.kept = value as u16 as i16,
-                    0x6443 => machine.error_mode = value == 1,
-                    0x6444 => machine.error_value = value as i32 as i16,
-                    _ => unreachable!(),
-                }
-                machine.follow();
-            }
-            _ => unreachable!(),
+            _ => object.value_refusal(value),
         }
     }
 }
@@ -201,7 +86,7 @@ impl Machine for Device {
         match self.refusal(index, sub) {
             Err(number) => Answer::refused(number),
             Ok(object) => {
-                Answer { number: 0, size: object.size(sub), value: self.value(object, sub), events: 0 }
+                Answer { size: object.size(sub), value: self.value(object, sub), ..Answer::default() }
             }
         }
     }
@@ -225,7 +110,7 @@ impl Machine for Device {
         for (place, byte) in data.iter().enumerate() {
             value |= u32::from(*byte) << (8 * place);
         }
-        if let Some(number) = object.value_refusal(value) {
+        if let Some(number) = self.value_refusal(object, sub, value) {
             return Answer::refused(number);
         }
         self.store(object, sub, value);
@@ -294,5 +179,40 @@ impl Machine for Device {
             channels[channel] = machine.driven;
         }
         Answer::default()
+    }
+
+    fn receive(&mut self, message: Message, frame: &[u8]) -> Answer {
+        let mapping = *self.mapping(Direction::Receive, message as usize);
+        if self.node.state != State::Operational || frame.len() < mapping.bytes() {
+            return Answer::default();
+        }
+        let mut rest = frame;
+        for entry in mapping.mapped().iter().filter(|entry| !entry.is_zero()) {
+            let (data, after) = rest.split_at(entry.bytes());
+            // No row refuses a mapped entry with its own size, and the node is operational.
+            assert_eq!(self.write(entry.index, entry.sub, data), Answer::default());
+            rest = after;
+        }
+        Answer::default()
+    }
+
+    fn transmit(&mut self, message: Message, frame: &mut [u8]) -> Answer {
+        if frame.len() != 8 {
+            return Answer::refused(5);
+        }
+        if self.node.state != State::Operational {
+            return Answer::default();
+        }
+        let mapping = *self.mapping(Direction::Transmit, message as usize);
+        let mut count = 0;
+        let mut rest = frame;
+        for entry in mapping.mapped().iter().filter(|entry| !entry.is_zero()) {
+            let read = self.read(entry.index, entry.sub);
+            let (written, after) = rest.split_at_mut(entry.bytes());
+            written.copy_from_slice(&read.value.to_le_bytes()[..read.size]);
+            count += read.size;
+            rest = after;
+        }
+        Answer { count, ..Answer::default() }
     }
 }

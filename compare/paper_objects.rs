@@ -1,4 +1,7 @@
-//! The object dictionary of document 01: what an index names, its entries, their sizes and values.
+//! The object dictionary of document 01 and Item 1 of document 02: what an index names, its entries,
+//! their sizes and values.
+
+use crate::paper_mappings::Direction;
 
 #[derive(Clone, Copy, PartialEq)]
 pub enum Attribute {
@@ -44,6 +47,8 @@ pub enum Object {
     InputChannel(u16),
     /// 6411, 6443, 6444
     OutputChannel(u16),
+    /// 1600 to 1603 and 1A00 to 1A03, each direction's counted from 0.
+    Mapping(Direction, usize),
 }
 
 pub fn object(index: u16) -> Option<Object> {
@@ -63,6 +68,8 @@ pub fn object(index: u16) -> Option<Object> {
         0x6422 => Some(Object::InterruptSource),
         0x6401 | 0x6421 | 0x6424..=0x6428 => Some(Object::InputChannel(index)),
         0x6411 | 0x6443 | 0x6444 => Some(Object::OutputChannel(index)),
+        0x1600..=0x1603 => Some(Object::Mapping(Direction::Receive, usize::from(index - 0x1600))),
+        0x1A00..=0x1A03 => Some(Object::Mapping(Direction::Transmit, usize::from(index - 0x1A00))),
         _ => None,
     }
 }
@@ -76,6 +83,13 @@ impl Object {
             Object::OutputChannel(_) => Some(8),
             Object::ErrorBehaviour | Object::InterruptSource => Some(1),
             _ => None,
+        }
+    }
+
+    pub fn last_sub_index(self) -> u8 {
+        match self {
+            Object::Mapping(..) => 8,
+            _ => self.entries().unwrap_or(0),
         }
     }
 
@@ -103,10 +117,12 @@ impl Object {
             Object::InputChannel(0x6401) | Object::OutputChannel(0x6411) => 2,
             Object::InputChannel(0x6421) | Object::OutputChannel(0x6443) => 1,
             Object::InputChannel(_) | Object::OutputChannel(_) => 4,
+            Object::Mapping(..) if sub != 0 => 4,
             _ => 1,
         }
     }
 
+    /// Of document 01 alone; what a mapping takes depends on what stands in it.
     pub fn value_refusal(self, value: u32) -> Option<u32> {
         let outside = match self {
             Object::Lines(_, 1) => value > 1,

@@ -6,9 +6,14 @@
 mod calls;
 #[allow(dead_code)]
 mod lists;
+mod lists_entries;
+mod lists_mappings;
 mod notation;
+mod notation_messages;
 mod paper;
+mod paper_entries;
 mod paper_machines;
+mod paper_mappings;
 mod paper_objects;
 mod play_expected;
 mod play_model;

@@ -1,4 +1,4 @@
-//! The notation and document 01 as a player of a list: it takes line after line, says which answer
+//! The notation and the papers as a player of a list: it takes line after line, says which answer
 //! line each one gets, and counts.
 
 use crate::calls::Machine;
@@ -77,9 +77,9 @@ impl Player {
                 None
             }
             Line::Expects(words) => self.judge(&words),
-            Line::NotUnderstood => {
-                let asked = self.not_understood("", Words::WhatWasExpected);
-                self.last = Some(Last { text: asked.answer.clone(), whole: false });
+            Line::NotUnderstood(complaint) => {
+                let asked = self.not_understood("", Words::WhatWasExpected(complaint));
+                self.last = Some(Last { text: asked.text(), whole: complaint.is_some() });
                 Some(asked)
             }
             Line::Call(asked) => Some(self.play(asked)),

@@ -20,7 +20,7 @@ pub fn answered_back(list: &[u8], output: &[u8]) -> Vec<u8> {
         match expected.words {
             // The answer to an expecting line is none that can be expected.
             Words::None => {}
-            Words::WhatWasExpected => {
+            Words::WhatWasExpected(_) => {
                 // The line has another number in the second list.
                 let start = format!("> ? line {}: ", back.len()).into_bytes();
                 back.push([&start, &answer[expected.answer.len()..]].concat());

@@ -28,6 +28,11 @@ pub fn lists_of_everything() -> Vec<Named> {
         named("every pair of bytes before a sign", [b"create 5\n", &every_pair(b"", b"> 0")[..]].concat()),
         named("every pair of bytes between words", [b"6200:1\n", &every_pair(b"> 0 =", b"00")[..]].concat()),
         named("every length near the limit", every_length_near_the_limit()),
+        named("every message and length of a frame", every_message_and_length()),
+        named("every entry of a mapping", every_entry_of_a_mapping()),
+        named("every pair of bytes as a message", every_pair(b"receive ", b"")),
+        named("every pair of bytes as a frame", every_pair(b"transmit 1 ", b"")),
+        named("every pair of bytes after an empty frame", every_pair(b"transmit 1 /", b"")),
     ];
     lists.extend(every_start());
     lists
@@ -56,6 +61,40 @@ fn every_command() -> Vec<u8> {
     for code in 0..=256 {
         for node in 0..=256 {
             list += &format!("command {code} {node}\n6200:1\n");
+        }
+    }
+    list.into_bytes()
+}
+
+/// With a mapping of two bytes for each of the four; numbers and lengths go beyond both ends.
+fn every_message_and_length() -> Vec<u8> {
+    let mut list = String::from("create 5\nstart\n");
+    for number in 0..4 {
+        list += &format!("160{number}:1 = 10 0{} 11 64\n160{number} = 1\n", number + 1);
+        list += &format!("1A0{number}:1 = 10 0{} 00 61\n1A0{number} = 1\n", number + 1);
+    }
+    for number in (0..7).chain([10, 255, 256, 257]) {
+        for length in 0..68 {
+            let bytes = format!(" {number:02X}").repeat(length);
+            list += &format!("receive {number}{bytes}\n6411:{:X}\ntransmit {number}{bytes}\n", number % 9);
+            list += &format!("transmit {number} /{bytes}\nreceive {number}{bytes} /\n");
+        }
+    }
+    list.into_bytes()
+}
+
+/// Every object and a few indices beside, at some sub-indices, with each length of bits, written into one of
+/// either direction's entries.
+fn every_entry_of_a_mapping() -> Vec<u8> {
+    let mut list = String::from("create 5\n");
+    let indices: Vec<u16> = objects().iter().map(|object| object.index).chain([0, 1, 5, 7, 0x6201]).collect();
+    for index in indices {
+        let [low, high] = index.to_le_bytes();
+        for sub in [0, 1, 4, 5, 8, 9, 16, 17, 128, 129, 255] {
+            for bits in [0, 1, 7, 8, 9, 16, 17, 24, 32, 33, 64, 255] {
+                list += &format!("1600:1 = {bits:X} {sub:X} {low:X} {high:X}\n1600:1\n");
+                list += &format!("1A03:8 = {bits:X} {sub:X} {low:X} {high:X}\n1A03:8\n");
+            }
         }
     }
     list.into_bytes()

@@ -1,6 +1,6 @@
 //! A call as the words of a line, in every way the notation lets it be spelled.
 
-use crate::calls::{Call, Cause};
+use crate::calls::{Call, Cause, Message};
 use crate::lists::Random;
 
 pub type Word = Vec<u8>;
@@ -91,9 +91,40 @@ pub fn create(number: u8, random: &mut Random) -> Vec<Word> {
     vec![b"create".to_vec(), decimal(i32::from(number), random)]
 }
 
+/// The number of a message, then bytes.
+fn message(name: &[u8], message: Message, frame: &[u8], random: &mut Random) -> Vec<Word> {
+    [vec![name.to_vec(), decimal(message as i32 + 1, random)], bytes(frame, random)].concat()
+}
+
+/// Eight bytes of 00 may be left out, and no byte at all is said by a slash.
+fn transmit(named: Message, frame: &[u8], random: &mut Random) -> Vec<Word> {
+    let kept = if random.chance(6) { &[] } else { frame };
+    let frame = resized(kept, 0x77, random);
+    if random.chance(30) {
+        return message(b"transmit", named, &[], random);
+    }
+    let mut words = message(b"transmit", named, &frame, random);
+    if frame.is_empty() {
+        words.push(b"/".to_vec());
+    }
+    words
+}
+
+fn sample(digital: &[u8], analogue: &[i16], events: &[u8], random: &mut Random) -> Vec<Word> {
+    let digital = resized(digital, 0xFF, random);
+    let analogue = resized(analogue, -7, random);
+    let slash = || vec![b"/".to_vec()];
+    let mut words =
+        [vec![b"sample".to_vec()], bytes(&digital, random), slash(), numbers(&analogue, random)].concat();
+    if random.chance(40) {
+        let events = resized(events, 0x3C, random);
+        words.extend([slash(), bytes(&events, random)].concat());
+    }
+    words
+}
+
 /// The words of a call; lent buffers that the notation may leave out are left out at times.
 pub fn words_of(call: &Call, random: &mut Random) -> Vec<Word> {
-    let slash = || vec![b"/".to_vec()];
     match call {
         Call::Read { index, sub } => vec![entry(*index, *sub, random)],
         Call::Write { index, sub, data } => {
@@ -104,16 +135,7 @@ pub fn words_of(call: &Call, random: &mut Random) -> Vec<Word> {
             [vec![entry(*index, *sub, random), b"=".to_vec()], bytes(&data, random)].concat()
         }
         Call::Sample { digital, analogue, events } => {
-            let digital = resized(digital.part(), 0xFF, random);
-            let analogue = resized(analogue.part(), -7, random);
-            let mut words =
-                [vec![b"sample".to_vec()], bytes(&digital, random), slash(), numbers(&analogue, random)]
-                    .concat();
-            if random.chance(40) {
-                let events = resized(events.part(), 0x3C, random);
-                words.extend([slash(), bytes(&events, random)].concat());
-            }
-            words
+            sample(digital.part(), analogue.part(), events.part(), random)
         }
         Call::Command { code, node } => command(*code, *node, random),
         Call::Raise(named) => vec![b"raise".to_vec(), cause(*named)],
@@ -122,7 +144,13 @@ pub fn words_of(call: &Call, random: &mut Random) -> Vec<Word> {
         Call::Drive { lines, channels } => {
             let lines = resized(lines.part(), 0x99, random);
             let channels = resized(channels.part(), 300, random);
-            [vec![b"drive".to_vec()], bytes(&lines, random), slash(), numbers(&channels, random)].concat()
+            let slash = vec![b"/".to_vec()];
+            [vec![b"drive".to_vec()], bytes(&lines, random), slash, numbers(&channels, random)].concat()
         }
+        Call::Receive { message: named, frame } => {
+            let frame = resized(frame.part(), 0x77, random);
+            message(b"receive", *named, &frame, random)
+        }
+        Call::Transmit { message, frame } => transmit(*message, frame.part(), random),
     }
 }

@@ -1,6 +1,7 @@
 /*
  * A main loop over the device: a set-up list, then a tick for each row of the table below with a
- * sample, its events and the driven outputs, and a communication loss on the way.
+ * sample, its events and the driven outputs, and a communication loss on the way. At the end a
+ * received frame and one to be sent, by the mappings of the set-up list.
  */
 #include <io401.h>
 #include <stdio.h>
@@ -29,6 +30,12 @@ static const setting SET_UP[] = {
     {0x6411, 1, 1000, 2},   /* analogue output 1 .. */
     {0x6444, 1, 0xFFFFFFFB, 4}, /* .. goes to -5 in a fault */
     {0x1029, 1, 0, 1},      /* a lost bus takes the node to pre-operational */
+    {0x1600, 1, IO401_MAPPING_ENTRY(0x6200, 2, 8), 4},  /* a received frame brings outputs 9 to 16 .. */
+    {0x1600, 2, IO401_MAPPING_ENTRY(0x6411, 2, 16), 4}, /* .. and after them analogue output 2 */
+    {0x1600, 0, 2, 1},      /* both entries are in force; an entry is only written before this */
+    {0x1A00, 1, IO401_MAPPING_ENTRY(0x6000, 1, 8), 4},  /* a frame to be sent tells inputs 1 to 8 .. */
+    {0x1A00, 2, IO401_MAPPING_ENTRY(0x6401, 1, 16), 4}, /* .. and after them analogue input 1 */
+    {0x1A00, 0, 2, 1},
     {0x6000, 1, 0x01, 1},   /* refused, as inputs are only read */
 };
 
@@ -86,6 +93,28 @@ static void run_tick(io401_device *device, size_t at)
            lines[0], channels[0]);
 }
 
+/* A frame off the bus may be longer than its mapping; what it brings is driven at once. */
+static void receive(io401_device *device)
+{
+    static const uint8_t FRAME[] = {0xA0, 0x34, 0x12, 0xFF};
+    uint8_t lines[IO401_LINE_BYTES];
+    int16_t channels[IO401_ANALOGUE_OUTPUTS];
+    uint32_t number = io401_receive_1600(device, FRAME, sizeof FRAME);
+    io401_drive(device, lines, IO401_LINE_BYTES, channels, IO401_ANALOGUE_OUTPUTS);
+    printf("received: number %08lX drives %02X %d\n", (unsigned long)number, lines[1], channels[1]);
+}
+
+/* The lent frame always has eight bytes; the count says how many of them go onto the bus. */
+static void transmit(const io401_device *device)
+{
+    uint8_t frame[IO401_FRAME_BYTES] = {0};
+    io401_transmit_answer answer = io401_transmit_1A00(device, frame, IO401_FRAME_BYTES);
+    printf("to be sent: number %08lX bytes %zu:", (unsigned long)answer.number, answer.count);
+    for (size_t n = 0; n < answer.count; n++)
+        printf(" %02X", frame[n]);
+    printf("\n");
+}
+
 int main(void)
 {
     io401_device device;
@@ -101,7 +130,10 @@ int main(void)
     show_entry(&device, 0x6422, 1);
     show_entry(&device, 0x6422, 1);
     show_entry(&device, 0x6200, 1);
+    receive(&device);
+    transmit(&device);
     io401_command(&device, IO401_STOP, NODE);
     show_entry(&device, 0x6200, 1);
+    transmit(&device);
     return 0;
 }

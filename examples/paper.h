@@ -1,7 +1,8 @@
-/* Document 01 as tables, written out from the paper and not from the library: its objects and its refusals. */
+/* Documents 01 and 02 as tables, written out from the papers and not from the library: the objects and the refusals. */
 #ifndef PAPER_H
 #define PAPER_H
 
+#include "paper_mappings.h"
 #include <stdbool.h>
 #include <stddef.h>
 #include <stdint.h>
@@ -29,12 +30,12 @@
 #define OUTPUT_CHANNELS 8u
 
 /* Which values a write may bring. */
-typedef enum rule { ANY, ZERO_OR_ONE, UP_TO_TWO, LOW_FIVE_BITS, SIXTEEN_BITS_SIGNED } rule;
+typedef enum rule { ANY, ZERO_OR_ONE, UP_TO_TWO, LOW_FIVE_BITS, SIXTEEN_BITS_SIGNED, AS_MAPPED } rule;
 
 typedef struct object {
     uint16_t index;
     uint8_t last;    /* the last sub-index, 0 where the object has sub-index 0 alone */
-    uint8_t size;    /* bytes of an entry; an entry count has one */
+    uint8_t size;    /* bytes of an entry; sub-index 0 has one where there are more */
     bool written;    /* not read only */
     rule takes;
     uint32_t fresh;  /* what an entry of a fresh device reads */
@@ -46,10 +47,17 @@ typedef struct object {
         {words, 8, 2, written, ANY, (fresh) & 0xFFFFu}, {longs, 4, 4, written, ANY, fresh}
 #define ONES 0xFFFFFFFFu
 
+/* Four mappings, of received or of transmitted messages. */
+#define FOUR_MAPPINGS(first)                                                                                          \
+    {first, 8, 4, true, AS_MAPPED, 0}, {(first) + 1, 8, 4, true, AS_MAPPED, 0},                                       \
+        {(first) + 2, 8, 4, true, AS_MAPPED, 0}, {(first) + 3, 8, 4, true, AS_MAPPED, 0}
+
 static const object OBJECTS[] = {
     {0x1000, 0, 4, false, ANY, 0x000F0191},
     {0x1001, 0, 1, false, ANY, 0},
     {0x1029, 1, 1, true, UP_TO_TWO, 0},
+    FOUR_MAPPINGS(0x1600),
+    FOUR_MAPPINGS(0x1A00),
     {0x6005, 0, 1, true, ZERO_OR_ONE, 1},
     LINES(0x6020, 0x6000, 0x6100, 0x6120, false, 0),   /* input */
     LINES(0x6030, 0x6002, 0x6102, 0x6122, true, 0),    /* input polarity */
@@ -88,9 +96,15 @@ static const object *listed_at(uint16_t index)
     return NULL;
 }
 
+/* How many entries an object has, and read only; in a mapping sub-index 0 is how many are in force, and written. */
 static bool is_entry_count(const object *at, uint8_t sub)
 {
-    return at->last > 0 && sub == 0;
+    return at->last > 0 && sub == 0 && at->takes != AS_MAPPED;
+}
+
+static uint8_t size_of(const object *at, uint8_t sub)
+{
+    return at->last > 0 && sub == 0 ? 1 : at->size;
 }
 
 /* The bytes as an unsigned number, the least significant first; an entry has at most four. */
@@ -130,7 +144,9 @@ static uint32_t refusal_of_read(bool stopped, uint16_t index, uint8_t sub)
     return sub > at->last ? SUB_INDEX_ABOVE : 0;
 }
 
-static uint32_t refusal_of_write(bool stopped, uint16_t index, uint8_t sub, const uint8_t *bytes, size_t length)
+/* `maps` are the eight mappings as they stand. */
+static uint32_t refusal_of_write(bool stopped, const mapping *maps, uint16_t index, uint8_t sub, const uint8_t *bytes,
+                                 size_t length)
 {
     const object *at = listed_at(index);
     const uint32_t number = refusal_of_read(stopped, index, sub);
@@ -138,10 +154,12 @@ static uint32_t refusal_of_write(bool stopped, uint16_t index, uint8_t sub, cons
         return number;
     if (!at->written || is_entry_count(at, sub))
         return READ_ONLY_ENTRY;
-    if (length > at->size)
+    if (length > size_of(at, sub))
         return DATA_TOO_LONG;
-    if (length < at->size)
+    if (length < size_of(at, sub))
         return DATA_TOO_SHORT;
+    if (at->takes == AS_MAPPED)
+        return refusal_of_mapping_value(&maps[mapping_at(index)], index >= 0x1A00, sub, number_of(bytes, length));
     return refusal_of_value(at->takes, number_of(bytes, length));
 }
 
@@ -171,22 +189,17 @@ static uint32_t refusal_of_drive(size_t line_length, size_t channel_length)
     return line_length != DIGITAL_BYTES || channel_length != OUTPUT_CHANNELS ? DRIVE_LENGTH : 0;
 }
 
-/* Writes with their answer, worked out by hand from the paper: each row alone, two rows at once, and just inside. */
-typedef struct known_write {
-    uint16_t index;
-    uint8_t sub;
-    uint8_t length;
-    uint8_t bytes[8];
-    uint32_t number;
-} known_write;
-
+/* On any device: each row alone, two rows at once, and just inside. */
 static const known_write KNOWN_WRITES[] = {
     /* index alone, and over each row below */
     {0x0000, 0, 1, {0}, INDEX_NOT_LISTED}, {0x0FFF, 0, 1, {0}, INDEX_NOT_LISTED},
     {0x1002, 0, 1, {0}, INDEX_NOT_LISTED}, {0x6001, 1, 1, {0}, INDEX_NOT_LISTED},
     {0x6445, 1, 4, {0}, INDEX_NOT_LISTED}, {0xFFFF, 0, 1, {0}, INDEX_NOT_LISTED},
     {0x6001, 0xFF, 1, {0}, INDEX_NOT_LISTED}, {0x6021, 1, 8, {9}, INDEX_NOT_LISTED},
-    {0x6445, 1, 0, {0}, INDEX_NOT_LISTED},
+    {0x6445, 1, 0, {0}, INDEX_NOT_LISTED}, {0x15FF, 0, 1, {0}, INDEX_NOT_LISTED},
+    {0x1604, 0, 1, {0}, INDEX_NOT_LISTED}, {0x19FF, 1, 4, {0}, INDEX_NOT_LISTED},
+    {0x1A04, 9, 1, {9}, INDEX_NOT_LISTED}, {0x1400, 1, 4, {0}, INDEX_NOT_LISTED},
+    {0x1800, 2, 1, {0}, INDEX_NOT_LISTED},
     /* sub-index alone, and over access, size and value */
     {0x6200, 0x11, 1, {0}, SUB_INDEX_ABOVE}, {0x6220, 0x81, 1, {0}, SUB_INDEX_ABOVE},
     {0x6320, 5, 4, {0}, SUB_INDEX_ABOVE}, {0x6411, 9, 2, {0}, SUB_INDEX_ABOVE},
@@ -195,6 +208,8 @@ static const known_write KNOWN_WRITES[] = {
     {0x6422, 2, 4, {0}, SUB_INDEX_ABOVE}, {0x6200, 0x11, 2, {0}, SUB_INDEX_ABOVE},
     {0x6300, 9, 1, {0}, SUB_INDEX_ABOVE}, {0x6220, 0x81, 1, {2}, SUB_INDEX_ABOVE},
     {0x6444, 9, 4, {0, 0x80}, SUB_INDEX_ABOVE}, {0x6005, 0xFF, 1, {2}, SUB_INDEX_ABOVE},
+    {0x1600, 9, 4, {8, 1, 0, 0x62}, SUB_INDEX_ABOVE}, {0x1A03, 9, 1, {9}, SUB_INDEX_ABOVE},
+    {0x1603, 0xFF, 5, {1}, SUB_INDEX_ABOVE},
     /* access alone, and over size and value */
     {0x6000, 1, 1, {0}, READ_ONLY_ENTRY}, {0x1000, 0, 4, {0x91, 1, 0xF}, READ_ONLY_ENTRY},
     {0x1001, 0, 1, {0}, READ_ONLY_ENTRY}, {0x6401, 1, 2, {0}, READ_ONLY_ENTRY},
@@ -209,6 +224,8 @@ static const known_write KNOWN_WRITES[] = {
     {0x6444, 1, 5, {0, 0x80}, DATA_TOO_LONG}, {0x6200, 1, 0, {0}, DATA_TOO_SHORT},
     {0x6300, 1, 1, {0}, DATA_TOO_SHORT}, {0x6320, 1, 3, {0}, DATA_TOO_SHORT}, {0x6005, 0, 0, {2}, DATA_TOO_SHORT},
     {0x6411, 1, 1, {0}, DATA_TOO_SHORT}, {0x6444, 1, 3, {0, 0x80}, DATA_TOO_SHORT},
+    {0x1600, 0, 2, {9}, DATA_TOO_LONG}, {0x1A00, 0, 4, {0}, DATA_TOO_LONG}, {0x1600, 0, 0, {0}, DATA_TOO_SHORT},
+    {0x1601, 1, 5, {1}, DATA_TOO_LONG}, {0x1602, 8, 3, {1}, DATA_TOO_SHORT}, {0x1A01, 1, 0, {0}, DATA_TOO_SHORT},
     /* value, on both sides of each bound */
     {0x6220, 0x80, 1, {1}, 0}, {0x6220, 0x80, 1, {2}, VALUE_OUTSIDE}, {0x6270, 1, 1, {0xFF}, VALUE_OUTSIDE},
     {0x1029, 1, 1, {2}, 0}, {0x1029, 1, 1, {3}, VALUE_OUTSIDE}, {0x6005, 0, 1, {1}, 0},
@@ -221,6 +238,9 @@ static const known_write KNOWN_WRITES[] = {
     /* nothing is outside for the others */
     {0x6200, 0x10, 1, {0xFF}, 0}, {0x6320, 4, 4, {0xFF, 0xFF, 0xFF, 0xFF}, 0}, {0x6411, 8, 2, {0, 0x80}, 0},
     {0x6424, 0x10, 4, {0, 0, 0, 0x80}, 0}, {0x6428, 1, 4, {0xFF, 0xFF, 0xFF, 0xFF}, 0},
+    /* a count, whatever entries stand; paper_mappings.h has what depends on them */
+    {0x1600, 0, 1, {0}, 0}, {0x1A03, 0, 1, {0}, 0}, {0x1601, 0, 1, {9}, MAPPING_TOO_LONG},
+    {0x1A02, 0, 1, {0xFF}, MAPPING_TOO_LONG},
 };
 #define KNOWN_WRITE_COUNT (sizeof KNOWN_WRITES / sizeof KNOWN_WRITES[0])
 

@@ -1,15 +1,13 @@
 /*
- * Every refusal of every call, from six states of the device, against document 01 (paper.h). A refused
+ * Every refusal of every call, from six states of the device, against the papers (paper.h). A refused
  * call must answer the paper's number and nothing else, and leave each byte of the device and of the
  * lent buffers. What stands just inside each bound must be accepted. Ends at the first difference.
  */
-#include "trial.h"
+#include "messages.h"
 
 #define SHORT 8u     /* data bytes with a value; no entry has more than four */
 #define LARGE 1000u  /* bytes of the longest data that is lent */
-#define LENT 32u     /* elements of a sample's and a drive's buffers, the most that is lent of them */
 #define HUGE_SIZE 1000000u
-#define PATTERN 0xA5
 
 /* Reads and writes */
 
@@ -26,8 +24,10 @@ static void try_read(const situation *from, uint16_t index, uint8_t sub)
     } else if (is_entry_count(at, sub)) {
         expect(answer.value == at->last && answer.size == 1, "an entry count is wrong");
     } else {
-        expect(answer.size == at->size, "a read answers another size than the entry's");
+        expect(answer.size == size_of(at, sub), "a read answers another size than the entry's");
     }
+    if (wanted == 0 && at->takes == AS_MAPPED)
+        expect(answer.value == mapped_number(&from->mappings[mapping_at(index)], sub), "a mapping reads otherwise");
     if (wanted == 0 && index == 0x6422 && sub == 1)
         expect(io401_read(&device, index, sub).value == 0, "a read of 6422:1 leaves a source bit");
     else
@@ -72,7 +72,8 @@ static void try_write_for(const situation *from, uint16_t index, uint8_t sub, co
 
 static void try_write(const situation *from, uint16_t index, uint8_t sub, const uint8_t *bytes, size_t length)
 {
-    try_write_for(from, index, sub, bytes, length, refusal_of_write(from->stopped, index, sub, bytes, length));
+    try_write_for(from, index, sub, bytes, length,
+                  refusal_of_write(from->stopped, from->mappings, index, sub, bytes, length));
 }
 
 static void put(uint8_t bytes[SHORT], uint32_t value)
@@ -96,7 +97,7 @@ static void try_write_value(const situation *from, uint16_t index, uint8_t sub, 
     memcpy(&device, &from->device, sizeof device);
     put(bytes, value);
     const bool is_cut = size > 4 || (size > 0 && size < 4 && value >= UINT64_C(1) << (8 * size));
-    const uint32_t wanted = refusal_of_write(from->stopped, index, sub, bytes, is_cut ? 5 : size);
+    const uint32_t wanted = refusal_of_write(from->stopped, from->mappings, index, sub, bytes, is_cut ? 5 : size);
     check_number(io401_write_value(&device, index, sub, value, size), wanted, "write_value %04X:%02X = %lX, size %zu",
                  index, sub, (unsigned long)value, size);
     if (wanted != 0)
@@ -114,7 +115,7 @@ static void try_entry(const situation *from, uint16_t index, uint8_t sub)
     try_read(from, index, sub);
     for (size_t n = 0; n < VALUE_COUNT; n++) {
         put(bytes, VALUES[n]);
-        try_write(from, index, sub, bytes, listed_at(index)->size);
+        try_write(from, index, sub, bytes, size_of(listed_at(index), sub));
     }
     put(bytes, 0xFFFFFFFF);
     for (size_t length = 0; length <= SHORT; length++)
@@ -169,10 +170,63 @@ static void try_dictionary(const situation *from)
     }
 }
 
-/* Samples and drives */
+/* Mappings */
 
-static const size_t LENGTHS[] = {0, 1, 7, 8, 9, 15, 16, 17, 31, 32};
-#define LENGTH_COUNT (sizeof LENGTHS / sizeof LENGTHS[0])
+static void try_mapping_value(const situation *from, uint16_t index, uint8_t sub, uint32_t value)
+{
+    uint8_t bytes[SHORT];
+    put(bytes, value);
+    try_write(from, index, sub, bytes, sub == 0 ? 1 : 4);
+}
+
+/* Every listed object, indices beside them, and those of CiA 301's dummy entries, on both sides of each bound. */
+static void try_mapping_of(const situation *from, uint16_t index, uint8_t sub, uint16_t mapped)
+{
+    static const uint8_t SUBS[] = {0, 1, 2, 4, 5, 8, 9, 16, 17, 0x80, 0xFF};
+    static const uint8_t BITS[] = {0, 1, 7, 8, 9, 15, 16, 17, 24, 31, 32, 33, 64, 0xFF};
+    for (size_t s = 0; s < sizeof SUBS; s++)
+        for (size_t b = 0; b < sizeof BITS; b++)
+            try_mapping_value(from, index, sub, ENTRY(mapped, SUBS[s], BITS[b]));
+}
+
+static void try_mapping(const situation *from, uint16_t index)
+{
+    for (unsigned count = 0; count <= UINT8_MAX; count++)
+        try_mapping_value(from, index, 0, count);
+    for (uint8_t sub = 1; sub <= MAPPING_ENTRIES; sub++) {
+        for (uint16_t dummy = 0; dummy <= 8; dummy++)
+            try_mapping_of(from, index, sub, dummy);
+        for (size_t n = 0; n < OBJECT_COUNT; n++)
+            try_mapping_of(from, index, sub, OBJECTS[n].index);
+    }
+    for (unsigned mapped = 0; mapped <= UINT16_MAX; mapped++)
+        try_mapping_value(from, index, 1, ENTRY(mapped, 1u, 8u << mapped % 3));
+}
+
+static void try_mappings(const situation *from)
+{
+    for (size_t n = 0; n < MAPPINGS; n++)
+        try_mapping(from, MAPPING_AT[n]);
+}
+
+/* The steps that paper_mappings.h has worked out by hand. */
+static void try_mapping_steps(void)
+{
+    situation from = situations[FRESH];
+    for (size_t n = 0; n < MAPPING_STEP_COUNT; n++) {
+        const known_write *known = &MAPPING_STEPS[n];
+        mapping *map = &from.mappings[mapping_at(known->index)];
+        try_write(&from, known->index, known->sub, known->bytes, known->length);
+        try_write_for(&from, known->index, known->sub, known->bytes, known->length, known->number);
+        io401_write(&from.device, known->index, known->sub, known->bytes, known->length);
+        if (known->number == 0 && known->sub == 0)
+            map->count = known->bytes[0];
+        else if (known->number == 0)
+            map->entries[known->sub - 1] = number_of(known->bytes, 4);
+    }
+}
+
+/* Samples and drives */
 
 static void try_sample(const situation *from, size_t digital_length, size_t analogue_length, size_t event_length)
 {
@@ -251,6 +305,7 @@ static void check_obeyed(const situation *from, io401_device *device, uint8_t co
     if (code == IO401_RESET_NODE)
         expect(is_same(device, &fresh), "reset node leaves another device than a fresh one");
     if (code == IO401_RESET_COMMUNICATION) {
+        check_empty(device);
         expect(io401_read(device, 0x1029, 1).value == 0, "reset communication leaves 1029:1");
         expect((io401_read(device, 0x1001, 0).value & 0x10) == 0, "reset communication leaves the loss");
         expect(from->in_fault || memcmp(device->words, from->device.words, sizeof device->words) == 0,
@@ -292,7 +347,7 @@ static void check_fresh(io401_device *device, uint8_t number)
     expect(io401_state(device) == IO401_STATE_PRE_OPERATIONAL, "a fresh device is not pre-operational");
     expect(device->octets[0] == number, "a fresh device has another node number");
     for (size_t n = 0; n < OBJECT_COUNT; n++)
-        for (unsigned sub = OBJECTS[n].last > 0; sub <= OBJECTS[n].last; sub++)
+        for (unsigned sub = is_entry_count(&OBJECTS[n], 0); sub <= OBJECTS[n].last; sub++)
             if (io401_read(device, OBJECTS[n].index, (uint8_t)sub).value != OBJECTS[n].fresh)
                 fail("a fresh device's %04X:%02X is not at its default", OBJECTS[n].index, sub);
     expect(is_same(device, &before), "reads change a fresh device");
@@ -335,7 +390,9 @@ static void try_situation(const situation *from)
 {
     situation_name = from->name;
     try_dictionary(from);
+    try_mappings(from);
     try_lengths(from);
+    try_messages(from);
     for (unsigned code = 0; code <= UINT8_MAX; code++)
         for (unsigned node = 0; node <= UINT8_MAX; node++)
             try_command(from, (uint8_t)code, (uint8_t)node);
@@ -402,7 +459,9 @@ static void check_names(void)
         {IO401_ABORT_VALUE_TOO_LOW, VALUE_BELOW},     {IO401_BAD_NODE, NODE_NUMBER},
         {IO401_BAD_COMMAND, COMMAND_CODE},            {IO401_BAD_DIGITAL_LENGTH, DIGITAL_LENGTH},
         {IO401_BAD_ANALOGUE_LENGTH, ANALOGUE_LENGTH}, {IO401_BAD_EVENT_LENGTH, EVENT_LENGTH},
-        {IO401_BAD_DRIVE_LENGTH, DRIVE_LENGTH},
+        {IO401_BAD_DRIVE_LENGTH, DRIVE_LENGTH},       {IO401_BAD_FRAME_LENGTH, FRAME_LENGTH},
+        {IO401_FRAME_BYTES, TRANSMIT_BYTES},          {IO401_ABORT_COUNT_NOT_ZERO, ENTRY_WHILE_COUNTED},
+        {IO401_ABORT_NOT_MAPPABLE, ENTRY_NOT_MAPPABLE}, {IO401_ABORT_MAPPING_TOO_LONG, MAPPING_TOO_LONG},
     };
     for (size_t n = 0; n < sizeof NAMED / sizeof NAMED[0]; n++)
         expect(NAMED[n][0] == NAMED[n][1], "a name of the header has another number than the paper's");
@@ -415,9 +474,15 @@ int main(void)
     prepare();
     for (int n = 0; n < SITUATION_COUNT; n++)
         try_situation(&situations[n]);
+    expect(frames_obeyed > 0 && frames_filled > 0, "no frame moved anything");
+    situation_name = "steps by hand";
+    try_mapping_steps();
     situation_name = "bench cases";
     try_fault();
     try_events();
-    printf("refusals: %lu calls from %d states answer what document 01 says\n", calls_tried, (int)SITUATION_COUNT);
+    try_received_frame();
+    try_frame_to_send();
+    check_entries_built();
+    printf("refusals: %lu calls from %d states answer what the papers say\n", calls_tried, (int)SITUATION_COUNT);
     return 0;
 }

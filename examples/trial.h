@@ -14,8 +14,10 @@
 /* What it is to be is known here and not asked of the device. */
 typedef struct situation {
     const char *name;
+    bool operational;
     bool stopped;
     bool in_fault;
+    mapping mappings[MAPPINGS];
     io401_device device;
 } situation;
 
@@ -39,7 +41,7 @@ static void expect(bool holds, const char *what)
         fail("%s", what);
 }
 
-/* By every byte, the one between two arrays included: calls work on copies made by memcpy. */
+/* By every byte, those between two arrays included: calls work on copies made by memcpy. */
 static bool is_same(const io401_device *a, const io401_device *b)
 {
     return memcmp(a, b, sizeof *a) == 0;
@@ -54,7 +56,7 @@ static void check_number(uint32_t got, uint32_t wanted, const char *format, ...)
     va_start(more, format);
     printf("refusals: %s: ", situation_name);
     vprintf(format, more);
-    printf(" answers %08lX, document 01 says %08lX\n", (unsigned long)got, (unsigned long)wanted);
+    printf(" answers %08lX, the papers say %08lX\n", (unsigned long)got, (unsigned long)wanted);
     va_end(more);
     exit(1);
 }
@@ -88,9 +90,44 @@ static void write_everything(io401_device *device)
 {
     for (size_t n = 0; n < OBJECT_COUNT; n++) {
         const object *at = &OBJECTS[n];
-        for (unsigned sub = at->last > 0; at->written && sub <= at->last; sub++)
+        const bool is_plain = at->written && at->takes != AS_MAPPED;
+        for (unsigned sub = at->last > 0; is_plain && sub <= at->last; sub++)
             if (io401_write_value(device, at->index, (uint8_t)sub, unusual_value(at, sub), at->size) != 0)
                 fail("the set-up of %04X:%02X is refused", at->index, sub);
+    }
+}
+
+/*
+ * By message: eight bytes in force; eight bytes in force and entries beyond; nothing in force, and entries that
+ * make 64 bits with the fifth and more with the sixth; five bytes in force, the last two over the first.
+ */
+static const mapping LAYOUTS[MAPPINGS] = {
+    {8, {ENTRY(0x6200, 1, 8), ENTRY(0x6200, 16, 8), ENTRY(0x6200, 3, 8), ENTRY(0x6200, 14, 8), ENTRY(0x6200, 5, 8),
+         ENTRY(0x6200, 6, 8), ENTRY(0x6200, 7, 8), ENTRY(0x6200, 8, 8)}},
+    {2, {ENTRY(0x6320, 4, 32), ENTRY(0x6320, 1, 32), ENTRY(0x6320, 2, 32), ENTRY(0x6320, 3, 32), ENTRY(0x6320, 1, 32),
+         ENTRY(0x6320, 2, 32), ENTRY(0x6320, 3, 32), ENTRY(0x6320, 4, 32)}},
+    {0, {ENTRY(0x6411, 8, 16), 0, ENTRY(0x6300, 8, 16), 0, ENTRY(0x6320, 3, 32), ENTRY(0x6200, 2, 8), 0,
+         ENTRY(0x6411, 1, 16)}},
+    {5, {ENTRY(0x6200, 2, 8), 0, ENTRY(0x6411, 3, 16), 0, ENTRY(0x6300, 1, 16), 0, ENTRY(0x6411, 2, 16), 0}},
+    {8, {ENTRY(0x6000, 1, 8), ENTRY(0x6000, 16, 8), ENTRY(0x6000, 3, 8), ENTRY(0x6000, 14, 8), ENTRY(0x6000, 5, 8),
+         ENTRY(0x6000, 6, 8), ENTRY(0x6000, 7, 8), ENTRY(0x6000, 8, 8)}},
+    {2, {ENTRY(0x6120, 4, 32), ENTRY(0x6120, 1, 32), ENTRY(0x6120, 2, 32), ENTRY(0x6120, 3, 32), ENTRY(0x6120, 1, 32),
+         ENTRY(0x6120, 2, 32), ENTRY(0x6120, 3, 32), ENTRY(0x6120, 4, 32)}},
+    {0, {ENTRY(0x6401, 16, 16), 0, ENTRY(0x6100, 8, 16), 0, ENTRY(0x6120, 3, 32), ENTRY(0x6000, 2, 8), 0,
+         ENTRY(0x6401, 1, 16)}},
+    {5, {ENTRY(0x6000, 2, 8), 0, ENTRY(0x6401, 3, 16), 0, ENTRY(0x6100, 1, 16), 0, ENTRY(0x6401, 2, 16), 0}},
+};
+
+static void write_mappings(situation *to)
+{
+    for (size_t n = 0; n < MAPPINGS; n++) {
+        const mapping *map = &LAYOUTS[n];
+        for (uint8_t sub = 1; sub <= MAPPING_ENTRIES; sub++)
+            if (io401_write_value(&to->device, MAPPING_AT[n], sub, map->entries[sub - 1], 4) != 0)
+                fail("the set-up of %04X:%02X is refused", MAPPING_AT[n], sub);
+        if (io401_write_value(&to->device, MAPPING_AT[n], 0, map->count, 1) != 0)
+            fail("the set-up of %04X:00 is refused", MAPPING_AT[n]);
+        to->mappings[n] = *map;
     }
 }
 
@@ -128,6 +165,7 @@ static void prepare(void)
     for (int n = 0; n < SITUATION_COUNT; n++) {
         io401_device *device = &situations[n].device;
         situations[n].name = NAMES[n];
+        situations[n].operational = n == WRITTEN || n == FAILED || n == LOST;
         situations[n].stopped = n == STOPPED;
         situations[n].in_fault = n >= FAILED;
         expect(io401_create(device, NODE) == 0, "a create is refused");
@@ -135,6 +173,7 @@ static void prepare(void)
             continue;
         expect(io401_command(device, IO401_START, NODE) == 0, "a start is refused");
         write_everything(device);
+        write_mappings(&situations[n]);
         sample_inputs(device);
         if (n == FAILED || n == BOTH)
             io401_raise(device, IO401_INTERNAL_FAILURE);

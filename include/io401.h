@@ -5,12 +5,13 @@
  * layout that is asserted below: a size_t of 8 bytes and a bool of one.
  *
  * A CiA 401 input/output device: 128 digital inputs, 128 digital outputs, 16 analogue inputs and
- * 8 analogue outputs. Link with libio401.a, whose functions are proved (crates/io401).
+ * 8 analogue outputs, and four process data messages each way. Link with libio401.a, whose functions
+ * are proved (crates/io401).
  *
- * Memory: a device has 696 bytes; the archive has 5,669 of code and constants, no data of its own,
+ * Memory: a device has 984 bytes; the archive has 8,703 of code and constants, no data of its own,
  * and allocates nothing. Stack of a call in bytes, from C through this header, as bench/stack.c
- * measures it with gcc 12.2 -O2: create 24, read 240, write 256, write_value 272, sample 120,
- * command 88, raise 56, clear 40, drive 8.
+ * measures it with gcc 12.2 -O2: create 24, read 240, write 496, write_value 512, sample 120,
+ * command 88, raise 56, clear 40, drive 8, receive 2288, transmit 1800.
  * Symbols needed from outside: none, not even memcpy. The code uses SSE2 registers and the 128 bytes
  * below the stack pointer (the red zone), as any program on x86-64 Linux may.
  *
@@ -38,15 +39,18 @@ extern "C" {
 #endif
 
 /* What a number other than 0 says of a read or a write: the abort codes of CiA 301. */
-#define IO401_ABORT_STOPPED UINT32_C(0x08000022)        /* the node is stopped */
-#define IO401_ABORT_NO_OBJECT UINT32_C(0x06020000)      /* no object has this index */
-#define IO401_ABORT_NO_SUBINDEX UINT32_C(0x06090011)    /* the sub-index is above the last entry */
-#define IO401_ABORT_READ_ONLY UINT32_C(0x06010002)      /* a write to an entry that is only read */
-#define IO401_ABORT_TOO_LONG UINT32_C(0x06070012)       /* more bytes than the entry has */
-#define IO401_ABORT_TOO_SHORT UINT32_C(0x06070013)      /* fewer bytes than the entry has */
-#define IO401_ABORT_VALUE UINT32_C(0x06090030)          /* a value that the entry cannot have */
-#define IO401_ABORT_VALUE_TOO_HIGH UINT32_C(0x06090031) /* 6444 above 32767 */
-#define IO401_ABORT_VALUE_TOO_LOW UINT32_C(0x06090032)  /* 6444 below -32768 */
+#define IO401_ABORT_STOPPED UINT32_C(0x08000022)          /* the node is stopped */
+#define IO401_ABORT_NO_OBJECT UINT32_C(0x06020000)        /* no object has this index */
+#define IO401_ABORT_NO_SUBINDEX UINT32_C(0x06090011)      /* the sub-index is above the last entry */
+#define IO401_ABORT_READ_ONLY UINT32_C(0x06010002)        /* a write to an entry that is only read */
+#define IO401_ABORT_TOO_LONG UINT32_C(0x06070012)         /* more bytes than the entry has */
+#define IO401_ABORT_TOO_SHORT UINT32_C(0x06070013)        /* fewer bytes than the entry has */
+#define IO401_ABORT_VALUE UINT32_C(0x06090030)            /* a value that the entry cannot have */
+#define IO401_ABORT_VALUE_TOO_HIGH UINT32_C(0x06090031)   /* 6444 above 32767 */
+#define IO401_ABORT_VALUE_TOO_LOW UINT32_C(0x06090032)    /* 6444 below -32768 */
+#define IO401_ABORT_COUNT_NOT_ZERO UINT32_C(0x06010000)   /* an entry of a mapping while its count is not 0 */
+#define IO401_ABORT_NOT_MAPPABLE UINT32_C(0x06040041)     /* an entry that cannot be mapped, or not so wide */
+#define IO401_ABORT_MAPPING_TOO_LONG UINT32_C(0x06040042) /* a count above 8, or of entries with more than 64 bits */
 
 /* What it says of the other calls. */
 #define IO401_BAD_NODE UINT32_C(1)            /* create: 0 or above 127; command: above 127 */
@@ -54,6 +58,7 @@ extern "C" {
 #define IO401_BAD_DIGITAL_LENGTH UINT32_C(3)  /* sample: not 16 bytes of inputs */
 #define IO401_BAD_ANALOGUE_LENGTH UINT32_C(4) /* sample: not 16 numbers */
 #define IO401_BAD_EVENT_LENGTH UINT32_C(5)    /* sample: not 16 bytes for events */
+#define IO401_BAD_FRAME_LENGTH UINT32_C(5)    /* transmit: not 8 bytes of frame; the call tells which 5 it is */
 #define IO401_BAD_DRIVE_LENGTH UINT32_C(6)    /* drive: not 16 bytes and 8 numbers */
 
 /* Network commands, and the node number that means every node. */
@@ -77,13 +82,26 @@ extern "C" {
 #define IO401_ANALOGUE_INPUTS 16u
 #define IO401_ANALOGUE_OUTPUTS 8u
 #define IO401_LONGEST_ENTRY 4u     /* bytes; no entry of the dictionary has more */
+#define IO401_FRAME_BYTES 8u       /* of a frame that is lent to transmit */
+
+/*
+ * The four bytes of an entry of a mapping, 1600 to 1603 and 1A00 to 1A03: which entry of the dictionary it
+ * moves, and how many bits that one has. A receive mapping takes the outputs (6200, 6300, 6320) and 6411, a
+ * transmit mapping the inputs (6000, 6100, 6120) and 6401; sub-index 0 of none. An entry of 0 moves nothing.
+ * Entries, sub-indices 1 to 8, are written while the count, sub-index 0, is 0; then the count puts the first
+ * so many in force. Numbers too high for their field give a value that no mapping takes; each is evaluated twice.
+ */
+#define IO401_MAPPING_ENTRY(index, sub, bits)                                                                         \
+    (((uint64_t)(index) >> 16 | (uint64_t)(sub) >> 8 | (uint64_t)(bits) >> 8) != 0                                    \
+         ? UINT32_C(0xFFFFFFFF)                                                                                       \
+         : ((uint32_t)(index) << 16 | (uint32_t)(sub) << 8 | (uint32_t)(bits)))
 
 /* Elements of a device's arrays, as in crates/channels/src/fields.rt and crates/windows/src/lib.rt. */
 #define IO401_OCTETS 21
 #define IO401_FLAGS 12
 #define IO401_WORDS 28
 #define IO401_LIMITS 32
-#define IO401_DELTAS 48
+#define IO401_DELTAS 120
 #define IO401_VALUES 56
 
 /* The arrays may be read, best through io401_read; element n - 1 of a column is channel n's. */
@@ -92,7 +110,7 @@ typedef struct io401_device {
     bool flags[IO401_FLAGS];       /* the two causes, 6005, 6423; 6443 (8) */
     uint64_t words[IO401_WORDS];   /* fourteen rows of 128 lines */
     int32_t limits[IO401_LIMITS];  /* 6424, 6425 (16 each) */
-    uint32_t deltas[IO401_DELTAS]; /* 6426, 6427, 6428 (16 each) */
+    uint32_t deltas[IO401_DELTAS]; /* 6426, 6427, 6428 (16 each); 1600 to 1603, 1A00 to 1A03 (9 each, by sub-index) */
     int16_t values[IO401_VALUES];  /* 6401, the last event's number (16 each); 6444, 6411, what is driven (8 each) */
 } io401_device;
 
@@ -109,6 +127,12 @@ typedef struct io401_sample_answer {
     uint16_t events;
 } io401_sample_answer;
 
+/* What a transmit answers: how many bytes of the frame it wrote, from the first on. */
+typedef struct io401_transmit_answer {
+    uint32_t number;
+    size_t count;
+} io401_transmit_answer;
+
 /* C99 has no assertion for the compiler, but it refuses an array of -1 elements. */
 #define IO401_ASSERT(name, holds) typedef char io401_assert_##name[(holds) ? 1 : -1]
 IO401_ASSERT(bool, sizeof(bool) == 1);
@@ -118,10 +142,14 @@ IO401_ASSERT(read_answer_value, offsetof(io401_read_answer, value) == 4);
 IO401_ASSERT(read_answer_size, offsetof(io401_read_answer, size) == 8);
 IO401_ASSERT(sample_answer, sizeof(io401_sample_answer) == 8);
 IO401_ASSERT(sample_answer_events, offsetof(io401_sample_answer, events) == 4);
+IO401_ASSERT(transmit_answer, sizeof(io401_transmit_answer) == 16);
+IO401_ASSERT(transmit_answer_count, offsetof(io401_transmit_answer, count) == 8);
 
 /*
  * The archive's functions: each takes the arrays of a device that it needs, and changes none that it
- * takes as const. Firmware calls those that follow.
+ * takes as const. Two bools name one of four messages, so that no other can be named: `second_pair` is
+ * true for 1602, 1603, 1A02 and 1A03, `second` for 1601, 1603, 1A01 and 1A03. Firmware calls those that
+ * follow.
  */
 uint32_t io401_create_arrays(uint8_t *octets, bool *flags, uint64_t *words, int32_t *limits, uint32_t *deltas,
                              int16_t *values, uint8_t number);
@@ -139,6 +167,11 @@ uint32_t io401_raise_arrays(uint8_t *octets, bool *flags, uint64_t *words, int16
 uint32_t io401_clear_arrays(uint8_t *octets, bool *flags, uint64_t *words, int16_t *values, bool loss);
 uint32_t io401_drive_arrays(const uint64_t *words, const int16_t *values, uint8_t *lines, size_t lines_length,
                             int16_t *channels, size_t channels_length);
+uint32_t io401_receive_arrays(uint8_t *octets, bool *flags, uint64_t *words, int32_t *limits, uint32_t *deltas,
+                              int16_t *values, bool second_pair, bool second, const uint8_t *frame, size_t length);
+io401_transmit_answer io401_transmit_arrays(const uint8_t *octets, const bool *flags, const uint64_t *words,
+                                            const int32_t *limits, const uint32_t *deltas, const int16_t *values,
+                                            bool second_pair, bool second, uint8_t *frame, size_t length);
 
 /* A whole device as the arguments of a function above: pointers into it, no copy. */
 #define IO401_ARRAYS_OF(d) (d)->octets, (d)->flags, (d)->words, (d)->limits, (d)->deltas, (d)->values
@@ -164,7 +197,8 @@ static inline io401_read_answer io401_read(io401_device *device, uint16_t index,
 
 /*
  * Writes an entry: `length` bytes, the least significant first. The length must be the entry's
- * size. Refusals are IO401_ABORT_.., the first that applies in the order listed above.
+ * size. Refusals are IO401_ABORT_.., the first that applies in the order listed above; the last three
+ * are those of a mapping, of its entries the first two and of its count the third.
  */
 static inline uint32_t io401_write(io401_device *device, uint16_t index, uint8_t sub, const uint8_t *bytes,
                                    size_t length)
@@ -230,6 +264,60 @@ static inline uint32_t io401_drive(const io401_device *device, uint8_t *lines, s
                                    size_t channels_length)
 {
     return io401_drive_arrays(device->words, device->values, lines, lines_length, channels, channels_length);
+}
+
+/*
+ * Four calls for a received frame, one for each receive mapping. Each entry in force takes its bytes from
+ * the frame, after those of the entry before, and is written as io401_write writes it, in order. A frame
+ * may have any length, and is never refused. One shorter than its mapping does nothing, not even for the
+ * entries that it has bytes for; nor does any while the node is not operational. Bytes beyond the mapping
+ * are not read.
+ */
+static inline uint32_t io401_receive_1600(io401_device *device, const uint8_t *frame, size_t length)
+{
+    return io401_receive_arrays(IO401_ARRAYS_OF(device), false, false, frame, length);
+}
+
+static inline uint32_t io401_receive_1601(io401_device *device, const uint8_t *frame, size_t length)
+{
+    return io401_receive_arrays(IO401_ARRAYS_OF(device), false, true, frame, length);
+}
+
+static inline uint32_t io401_receive_1602(io401_device *device, const uint8_t *frame, size_t length)
+{
+    return io401_receive_arrays(IO401_ARRAYS_OF(device), true, false, frame, length);
+}
+
+static inline uint32_t io401_receive_1603(io401_device *device, const uint8_t *frame, size_t length)
+{
+    return io401_receive_arrays(IO401_ARRAYS_OF(device), true, true, frame, length);
+}
+
+/*
+ * Four calls for a frame to be sent, one for each transmit mapping. Each entry in force is read as
+ * io401_read reads it, and its bytes are written into the frame after those of the entry before, the
+ * least significant first. Answers how many bytes were written; those beyond stay as they were. While the
+ * node is not operational that is 0, and none is touched. `length` must be IO401_FRAME_BYTES, however
+ * short the mapping is: all else is refused with IO401_BAD_FRAME_LENGTH, in every state of the node.
+ */
+static inline io401_transmit_answer io401_transmit_1A00(const io401_device *device, uint8_t *frame, size_t length)
+{
+    return io401_transmit_arrays(IO401_ARRAYS_OF(device), false, false, frame, length);
+}
+
+static inline io401_transmit_answer io401_transmit_1A01(const io401_device *device, uint8_t *frame, size_t length)
+{
+    return io401_transmit_arrays(IO401_ARRAYS_OF(device), false, true, frame, length);
+}
+
+static inline io401_transmit_answer io401_transmit_1A02(const io401_device *device, uint8_t *frame, size_t length)
+{
+    return io401_transmit_arrays(IO401_ARRAYS_OF(device), true, false, frame, length);
+}
+
+static inline io401_transmit_answer io401_transmit_1A03(const io401_device *device, uint8_t *frame, size_t length)
+{
+    return io401_transmit_arrays(IO401_ARRAYS_OF(device), true, true, frame, length);
 }
 
 /* The state of the node, IO401_STATE_... */

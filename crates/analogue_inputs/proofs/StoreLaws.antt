@@ -22,7 +22,7 @@ use Rattle.channels.proofs.StoreLaws.{three-first, three-second, three-third, t
 
 module _ (octets : List ℕ) (limits : List ℤ) (deltas : List ℕ) (values : List ℤ) (n : ℕ) (x : AnalogueInput)
     (h : n < 16)
-    (lo : length octets ≡ 21) (ll : length limits ≡ 32) (ld : length deltas ≡ 48) where
+    (lo : length octets ≡ 21) (ll : length limits ≡ 32) (ld : length deltas ≡ 120) where
   abbrev before : ℕ → AnalogueInput
   before = inputAt octets limits deltas values
 
@@ -73,11 +73,15 @@ module _ (octets : List ℕ) (limits : List ℤ) (deltas : List ℕ) (values : L
       }
 
   pub input-stored : (index v : ℕ) → x ≡ writeAnalogueInput index v (before n) → InputStored index n v before set-after octets
-      (selectionSet octets n x)
+      (selectionSet octets n x) deltas (deltasSet deltas n x)
   input-stored index v is =
       record {
         written = record { channels = λ i hi. by i hi (eqb i n) refl };
         octets-kept = outside-set (3 + n) (x .selection) (omega arith) (omega arith) outside-none;
+        deltas-kept =
+            outside-set (32 + n) (x .positive) (omega arith) (omega arith)
+            (outside-set (16 + n) (x .negative) (omega arith) (omega arith)
+            (outside-set n (x .delta) (omega arith) (omega arith) outside-none));
       }
     where
       by : (i : ℕ) → i < 16 → (t : Bool) → eqb i n ≡ t → set-after i ≡ cond t (writeAnalogueInput index v (before i)) (before i)

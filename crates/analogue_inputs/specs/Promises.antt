@@ -85,6 +85,7 @@ pub record SourcesStored (v : ℕ) (octets octets′ : List ℕ) : Type 0 where
   pub are : sourcesOf octets′ ≡ v
   pub octets-kept : Outside 19 21 0 octets octets′
 
-pub record InputStored (index n v : ℕ) (old new : ℕ → AnalogueInput) (octets octets′ : List ℕ) : Type 0 where
+pub record InputStored (index n v : ℕ) (old new : ℕ → AnalogueInput) (octets octets′ deltas deltas′ : List ℕ) : Type 0 where
   pub written : InputWritten index n v old new
   pub octets-kept : Outside 3 19 0 octets octets′
+  pub deltas-kept : Outside 0 48 0 deltas deltas′

@@ -243,12 +243,12 @@ pub fn write_at(
     index: u16,
     value: u32,
 )
-    requires { ⌜ (length (now octets) ≡ 21) × (length (now limits) ≡ 32) × (length (now deltas) ≡ 48) ⌝ }
+    requires { ⌜ (length (now octets) ≡ 21) × (length (now limits) ≡ 32) × (length (now deltas) ≡ 120) ⌝ }
     requires { ⌜ (n < 16) × (value < 256 ^ inputSize index) ⌝ }
     ensures { λ _. ⌜ InputStored index n value
         (inputAt (now (octets .entry)) (now (limits .entry)) (now (deltas .entry)) (now (values .entry)))
         (inputAt (now (octets .exit)) (now (limits .exit)) (now (deltas .exit)) (now (values .entry)))
-        (now (octets .entry)) (now (octets .exit)) ⌝ }
+        (now (octets .entry)) (now (octets .exit)) (now (deltas .entry)) (now (deltas .exit)) ⌝ }
 {
     let channel = input_at(octets, limits, deltas, values, n);
     let next = write_input(channel, index, value);

@@ -16,9 +16,9 @@ abbrev pub expectedTexts : List (List ℕ)
 expectedTexts =
     expectedText Ex.Call ∷ expectedText Ex.Byte ∷ expectedText Ex.Small ∷ expectedText Ex.Signed ∷ expectedText Ex.Cause
     ∷ expectedText Ex.Data ∷ expectedText Ex.Slash ∷ expectedText Ex.Fewer ∷ expectedText Ex.End ∷ expectedText Ex.Shorter
-    ∷ expectedText Ex.Answer ∷ []
+    ∷ expectedText Ex.Answer ∷ expectedText Ex.Message ∷ []
 
-expected-at : (e : Expected) → (expectedPlace e < 11) × (getD expectedTexts (expectedPlace e) [] ≡ expectedText e)
+expected-at : (e : Expected) → (expectedPlace e < 12) × (getD expectedTexts (expectedPlace e) [] ≡ expectedText e)
 expected-at Ex.Call = (omega arith, refl)
 expected-at Ex.Byte = (omega arith, refl)
 expected-at Ex.Small = (omega arith, refl)
@@ -30,8 +30,9 @@ expected-at Ex.Fewer = (omega arith, refl)
 expected-at Ex.End = (omega arith, refl)
 expected-at Ex.Shorter = (omega arith, refl)
 expected-at Ex.Answer = (omega arith, refl)
+expected-at Ex.Message = (omega arith, refl)
 
-pub expected-put : (e : Expected) (r text : List ℕ) (n : ℕ) {a b : List ℕ} {i j : ℕ} → entriesOf 11 text ≡ expectedTexts
+pub expected-put : (e : Expected) (r text : List ℕ) (n : ℕ) {a b : List ℕ} {i j : ℕ} → entriesOf 12 text ≡ expectedTexts
     → n ≡ expectedPlace e → r ≡ entryOf n text → Put r a i b j → Put (expectedText e) a i b j
 expected-put e r text n {a} {b} {i} {j} holds place is p =
     let at-place = entry-is expectedTexts text (expectedPlace e) (expected-at e .0) holds in

@@ -14,7 +14,7 @@ use mir.Val.{ofZ}
 use borrow.Author.Tests.{ltb-true, ltb-false}
 use Rattle.profile.specs.declared.Home.{Home}
 use Rattle.profile.specs.Entries.{homeOf}
-use Rattle.profile.proofs.HomeLaws.{window-holds}
+use Rattle.profile.proofs.HomeLaws.{window-holds, mapping-holds}
 use Rattle.words.specs.declared.Expected.{Expected}
 use Rattle.words.specs.declared.Expected.the-variants as Ex
 use Rattle.words.specs.Ascii.{ascii}
@@ -23,7 +23,8 @@ use Rattle.texts.specs.Tables.{Row, textOf}
 use Rattle.texts.specs.Texts.{hexText, longHexText, placesOf, decimalText, bitsText, eachText, bytesText, numbersText, placeText}
 use Rattle.texts.specs.Texts.{wordsText, placesFrom, placesText}
 use Rattle.answers.specs.Answers.{newline, inParentheses, numberText, refusals, refusalText, endText, attributes, linesText}
-use Rattle.answers.specs.Answers.{attributeText, entryText, plainLine, writeLine, fourBytes, readLine, sampleLine, driveLine}
+use Rattle.answers.specs.Answers.{attributeText, directionText, placeInMapping, mappingText, entryText, plainLine, writeLine}
+use Rattle.answers.specs.Answers.{fourBytes, readLine, sampleLine, driveLine, receiveEnd, receiveLine, frameEnd, frameLine}
 use Rattle.answers.specs.Answers.{expectedText, unknownLine, unmetLine, totalsText, judgedText}
 use Rattle.texts.proofs.ReadBack.{digits-length}
 
@@ -165,7 +166,7 @@ table-short other (row ∷ rows) n = short-cond (max (length (row .words)) (long
     (textOf other rows n) (le-max-left _ _)
     (omega (arith, table-short other rows n, le-max-right (length (row .words)) (longest other rows)))
 
-refusal-short : (n : ℕ) → length (refusalText n) ≤ 26
+refusal-short : (n : ℕ) → length (refusalText n) ≤ 30
 unfolding refusalText refusals
 refusal-short n = table-short (ascii "refused") refusals n
 
@@ -173,10 +174,23 @@ refusal-short n = table-short (ascii "refused") refusals n
 parentheses-short : (m : ℕ) (words : List ℕ) → length words ≤ m → length (inParentheses words) ≤ m + 4
 parentheses-short m words h = simp length-append (omega (arith, h))
 
-end-short : (n : ℕ) → length (endText n) ≤ 30
+end-short : (n : ℕ) → length (endText n) ≤ 34
 unfolding endText
-end-short n = short-cond 30 (eqb n 0) newline (inParentheses (refusalText n)) (omega arith)
-    (parentheses-short 26 (refusalText n) (refusal-short n))
+end-short n = short-cond 34 (eqb n 0) newline (inParentheses (refusalText n)) (omega arith)
+    (parentheses-short 30 (refusalText n) (refusal-short n))
+
+receive-end-short : (active long : Bool) → length (receiveEnd active long) ≤ 51
+unfolding receiveEnd
+receive-end-short false long = omega arith
+receive-end-short true false = omega arith
+receive-end-short true true = omega arith
+
+frame-end-short : (n : ℕ) (active : Bool) → length (frameEnd n active) ≤ 28
+unfolding frameEnd
+frame-end-short n active =
+    short-cond 28 (eqb n 0) (cond active newline (inParentheses (ascii "node not operational")))
+    (inParentheses (ascii "frame buffer not 8 bytes"))
+    (short-cond 28 active newline (inParentheses (ascii "node not operational")) (omega arith) (omega arith)) (omega arith)
 
 attribute-short : (row : ℕ) → length (attributeText row) ≤ 18
 unfolding attributeText attributes
@@ -190,11 +204,26 @@ lines-short from to =
     (omega (arith, decimal-short from))
     (simp length-append (omega (arith, decimal-short from, decimal-short to)))
 
+direction-short : (m : ℕ) → length (directionText m) ≤ 8
+unfolding directionText
+direction-short m = short-cond 8 (ltb m 4) (ascii "receive") (ascii "transmit") (omega arith) (omega arith)
+
+place-in-mapping-short : (sub : ℕ) → length (placeInMapping sub) ≤ 28
+unfolding placeInMapping
+place-in-mapping-short sub = short-cond 28 (eqb sub 0) (ascii ", count") (ascii ", entry " ++ decimalText sub) (omega arith)
+    (omega (arith, decimal-short sub))
+
+mapping-short : (m sub : ℕ) → length (mappingText m sub) ≤ 65
+unfolding mappingText
+mapping-short m sub = simp length-append (omega (arith, direction-short m, decimal-short (m % 4 + 1), place-in-mapping-short sub))
+
 entry-short : (h : Home) → length (entryText h) ≤ 74
 entry-short h =
-    window-holds (λ (text : List ℕ). length text ≤ 74) _ newline (omega arith)
+    mapping-holds (λ (text : List ℕ). length text ≤ 74) _ _
+    (window-holds (λ (text : List ℕ). length text ≤ 74) _ newline (omega arith)
     (λ row width sub. parentheses-short 70 (attributeText row ++ linesText (width * (sub - 1) + 1) (width * sub))
-    (simp length-append (omega (arith, attribute-short row, lines-short (width * (sub - 1) + 1) (width * sub))))) h
+    (simp length-append (omega (arith, attribute-short row, lines-short (width * (sub - 1) + 1) (width * sub))))) h)
+    (λ m sub. parentheses-short 70 (mappingText m sub) (omega (arith, mapping-short m sub))) h
 
 expected-short : (e : Expected) → length (expectedText e) ≤ 47
 expected-short Ex.Call = omega arith
@@ -208,6 +237,7 @@ expected-short Ex.Fewer = omega arith
 expected-short Ex.End = omega arith
 expected-short Ex.Shorter = omega arith
 expected-short Ex.Answer = omega arith
+expected-short Ex.Message = omega arith
 
 -- ---- lines
 
@@ -243,6 +273,16 @@ pub drive-short : (n : ℕ) (lines : List ℕ) (channels : List ℤ) → length 
 unfolding driveLine
 drive-short n lines channels h k = simp length-append
     (omega (arith, h, k, number-short n, bytes-short lines, numbers-short channels, end-short n))
+
+pub receive-short : (n : ℕ) (active long : Bool) → length (receiveLine n active long) ≤ 1024
+unfolding receiveLine
+receive-short n active long = simp length-append (omega (arith, number-short n, receive-end-short active long))
+
+pub frame-short : (n : ℕ) (frame : List ℕ) (count : ℕ) (active : Bool) → length frame ≤ 64
+    → length (frameLine n frame count active) ≤ 1024
+unfolding frameLine
+frame-short n frame count active h = simp length-append
+    (omega (arith, h, number-short n, bytes-short frame, decimal-short count, frame-end-short n active))
 
 pub unknown-short : (line : ℕ) (e : Expected) → length (unknownLine line e) ≤ 1024
 unfolding unknownLine

@@ -1,13 +1,13 @@
 -- Answer lines, to the letter: the call's number, what it answers, and in parentheses words that help a person.
 -- Assumes nothing.
-use mathlib.Core.Bool.{cond, _&&_}
+use mathlib.Core.Bool.{Bool, cond, _&&_}
 use mathlib.Core.List.{List, [], _∷_, _++_}
 use Prim.Native.Nat.{ℕ, _+_, _-_, _*_, _/_, _%_}
 use lib.Dec.{ltb, eqb}
 use lib.ListN.{take}
 use lib.IntN.{ℤ}
 use Rattle.profile.specs.declared.Home.{Home}
-use Rattle.profile.specs.Entries.{homeOf, atWindow}
+use Rattle.profile.specs.Entries.{homeOf, atWindow, atMapping}
 use Rattle.words.specs.declared.Expected.{Expected}
 use Rattle.words.specs.declared.Expected.the-variants as Ex
 use Rattle.words.specs.Ascii.{ascii}
@@ -44,6 +44,9 @@ refusals =
     ∷ 0x06090030 is "value not allowed"
     ∷ 0x06090031 is "value too high"
     ∷ 0x06090032 is "value too low"
+    ∷ 0x06010000 is "count is not 0"
+    ∷ 0x06040041 is "entry cannot be mapped"
+    ∷ 0x06040042 is "more than 8 entries or 64 bits"
     ∷ []
 
 unfoldable pub refusalText : ℕ → List ℕ
@@ -77,10 +80,24 @@ linesText from to =
     cond (eqb from to) (ascii ", line " ++ decimalText from)
     (ascii ", lines " ++ decimalText from ++ ascii " to " ++ decimalText to)
 
--- "for a digital read or write the attribute and the lines it is a window on, as `0 (output, lines 1 to 16)`"
+-- of the eight mappings the first four receive: 0 is `receive` and 4 is `transmit`
+unfoldable pub directionText : ℕ → List ℕ
+directionText m = cond (ltb m 4) (ascii "receive") (ascii "transmit")
+
+-- `, count` or `, entry 3`
+unfoldable pub placeInMapping : ℕ → List ℕ
+placeInMapping sub = cond (eqb sub 0) (ascii ", count") (ascii ", entry " ++ decimalText sub)
+
+-- `receive mapping 1, entry 3`
+unfoldable pub mappingText : ℕ → ℕ → List ℕ
+mappingText m sub = directionText m ++ ascii " mapping " ++ decimalText (m % 4 + 1) ++ placeInMapping sub
+
+-- "for a digital read or write the attribute and the lines it is a window on, as `0 (output, lines 1 to 16)`"; for a mapping which it is
 abbrev pub entryText : Home → List ℕ
 entryText h =
-    atWindow newline (λ row width sub. inParentheses (attributeText row ++ linesText (width * (sub - 1) + 1) (width * sub))) h
+    atMapping
+    (atWindow newline (λ row width sub. inParentheses (attributeText row ++ linesText (width * (sub - 1) + 1) (width * sub))) h)
+    (λ m sub. inParentheses (mappingText m sub)) h
 
 -- the line of a call that answers its number alone
 unfoldable pub plainLine : ℕ → List ℕ
@@ -107,6 +124,27 @@ sampleLine n events channels = numberText n ++ ascii " events" ++ bytesText even
 unfoldable pub driveLine : ℕ → List ℕ → List ℤ → List ℕ
 driveLine n lines channels = numberText n ++ ascii " lines" ++ bytesText lines ++ ascii " /" ++ numbersText channels ++ endText n
 
+-- the end of a receive's line, which has no refusal: why nothing was written, in a node that is operational or not, by a frame that is as
+-- long as its mapping or not
+unfoldable pub receiveEnd : Bool → Bool → List ℕ
+receiveEnd active long =
+    cond active (cond long newline (inParentheses (ascii "frame shorter than its mapping, nothing written")))
+    (inParentheses (ascii "node not operational, nothing written"))
+
+unfoldable pub receiveLine : ℕ → Bool → Bool → List ℕ
+receiveLine n active long = numberText n ++ receiveEnd active long
+
+-- the end of a transmit's line, which has one refusal: why no byte was written, in a node that is operational or not
+unfoldable pub frameEnd : ℕ → Bool → List ℕ
+frameEnd n active =
+    cond (eqb n 0) (cond active newline (inParentheses (ascii "node not operational")))
+    (inParentheses (ascii "frame buffer not 8 bytes"))
+
+-- "`frame`, the buffer as the call left it, `/`, how many bytes were written"
+unfoldable pub frameLine : ℕ → List ℕ → ℕ → Bool → List ℕ
+frameLine n frame count active =
+    numberText n ++ ascii " frame" ++ bytesText frame ++ ascii " / " ++ decimalText count ++ frameEnd n active
+
 -- what should have stood in a line
 abbrev pub expectedText : Expected → List ℕ
 expectedText Ex.Call = ascii "a call or an index of 1 to 4 hexadecimal digits"
@@ -120,6 +158,7 @@ expectedText Ex.Fewer = ascii "at most 64 in a buffer"
 expectedText Ex.End = ascii "the end of the line"
 expectedText Ex.Shorter = ascii "at most 1,024 bytes"
 expectedText Ex.Answer = ascii "an answer before this line"
+expectedText Ex.Message = ascii "a number from 1 to 4"
 
 -- the order in which the code keeps these texts
 abbrev pub expectedPlace : Expected → ℕ
@@ -134,6 +173,7 @@ expectedPlace Ex.Fewer = 7
 expectedPlace Ex.End = 8
 expectedPlace Ex.Shorter = 9
 expectedPlace Ex.Answer = 10
+expectedPlace Ex.Message = 11
 
 -- "A line that is no call of this table gets `? line N: ` and what was expected"
 unfoldable pub unknownLine : ℕ → Expected → List ℕ

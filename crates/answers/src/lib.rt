@@ -4,9 +4,9 @@ use crate::tables::put_expected;
 use crate::tables::put_meaning;
 ghost use Rattle.profile.specs.Entries.{homeOf};
 ghost use Rattle.texts.specs.Texts.{Put};
-ghost use Rattle.answers.specs.Answers.{numberText, endText, linesText, entryText};
+ghost use Rattle.answers.specs.Answers.{numberText, endText, linesText, entryText, directionText, placeInMapping, mappingText};
 ghost use Rattle.answers.specs.Answers.{plainLine, writeLine, readLine, sampleLine, driveLine, unknownLine};
-ghost use Rattle.answers.specs.Answers.{unmetLine, totalsText, judgedText};
+ghost use Rattle.answers.specs.Answers.{receiveEnd, receiveLine, frameEnd, frameLine, unmetLine, totalsText, judgedText};
 use dictionary::entries::find;
 use profile::Home;
 use texts::text::put;
@@ -99,6 +99,61 @@ pub fn put_drive(out: &mut [u8], at: usize, number: u32, lines: &[u8], channels:
     end(out, last, number)
 }
 
+// A receive, in a node that is operational or not, by a frame that is as long as its mapping or not.
+pub fn put_receive(out: &mut [u8], at: usize, number: u32, active: bool, long: bool) -> usize
+    ensures { λ r. ⌜ Put (receiveLine number active long) (now (out .entry)) at (now (out .exit)) r ⌝ }
+{
+    let next = put_number(out, at, number);
+    end_receive(out, next, active, long)
+}
+
+fn end_receive(out: &mut [u8], at: usize, active: bool, long: bool) -> usize
+    ensures { λ r. ⌜ Put (receiveEnd active long) (now (out .entry)) at (now (out .exit)) r ⌝ }
+{
+    if !active {
+        return put_all(out, at, b" (node not operational, nothing written)\n");
+    }
+    if !long {
+        return put_all(
+            out,
+            at,
+            b" (frame shorter than its mapping, nothing written)\n",
+        );
+    }
+    put(out, at, b'\n')
+}
+
+pub fn put_frame(
+    out: &mut [u8],
+    at: usize,
+    number: u32,
+    frame: &[u8],
+    count: usize,
+    active: bool,
+) -> usize
+    ensures { λ r. ⌜ Put (frameLine number (now (frame .entry)) count active) (now (out .entry)) at (now (out .exit)) r ⌝ }
+{
+    let first = put_number(out, at, number);
+    let second = put_all(out, first, b" frame");
+    let third = put_bytes(out, second, frame);
+    let fourth = put_all(out, third, b" / ");
+    let last = put_decimal(out, fourth, count as u64);
+    end_frame(out, last, number, active)
+}
+
+// A transmit has one refusal, whose number means the event buffer elsewhere.
+fn end_frame(out: &mut [u8], at: usize, number: u32, active: bool) -> usize
+    ensures { λ r. ⌜ Put (frameEnd number active) (now (out .entry)) at (now (out .exit)) r ⌝ }
+{
+    if number != 0 {
+        return put_all(out, at, b" (frame buffer not 8 bytes)\n");
+    }
+    if !active {
+        return put_all(out, at, b" (node not operational)\n");
+    }
+    put(out, at, b'\n')
+}
+
 // A refusal's meaning and the line's end.
 fn end(out: &mut [u8], at: usize, number: u32) -> usize
     ensures { λ r. ⌜ Put (endText number) (now (out .entry)) at (now (out .exit)) r ⌝ }
@@ -111,24 +166,59 @@ fn end(out: &mut [u8], at: usize, number: u32) -> usize
     put_all(out, last, b")\n")
 }
 
-// What an entry of digital lines is a window on, and the line's end.
+// What an entry of digital lines is a window on, or which entry of which mapping it is, and the line's end.
 fn end_access(out: &mut [u8], at: usize, index: u16, sub: u8) -> usize
     ensures { λ r. ⌜ Put (entryText (homeOf index sub)) (now (out .entry)) at (now (out .exit)) r ⌝ }
 {
     let entry = find(index, sub);
     let home = entry.home;
-    if let Home::Window(row, width, place) = home {
-        let first = put_all(out, at, b" (");
-        let second = put_attribute(out, first, row);
-        let last = put_lines(
-            out,
-            second,
-            (width * (place - 1) + 1) as u64,
-            (width * place) as u64,
-        );
-        return put_all(out, last, b")\n");
+    match home {
+        Home::Window(row, width, place) => {
+            let first = put_all(out, at, b" (");
+            let second = put_attribute(out, first, row);
+            let last = put_lines(
+                out,
+                second,
+                (width * (place - 1) + 1) as u64,
+                (width * place) as u64,
+            );
+            put_all(out, last, b")\n")
+        }
+        Home::MappingEntry(mapping, place) => {
+            let first = put_all(out, at, b" (");
+            let last = put_mapping(out, first, mapping, place);
+            put_all(out, last, b")\n")
+        }
+        _ => put(out, at, b'\n'),
     }
-    put(out, at, b'\n')
+}
+
+fn put_mapping(out: &mut [u8], at: usize, mapping: usize, place: usize) -> usize
+    ensures { λ r. ⌜ Put (mappingText mapping place) (now (out .entry)) at (now (out .exit)) r ⌝ }
+{
+    let first = put_direction(out, at, mapping);
+    let second = put_all(out, first, b" mapping ");
+    let third = put_decimal(out, second, (mapping % 4 + 1) as u64);
+    put_place_in_mapping(out, third, place)
+}
+
+fn put_direction(out: &mut [u8], at: usize, mapping: usize) -> usize
+    ensures { λ r. ⌜ Put (directionText mapping) (now (out .entry)) at (now (out .exit)) r ⌝ }
+{
+    if mapping < 4 {
+        return put_all(out, at, b"receive");
+    }
+    put_all(out, at, b"transmit")
+}
+
+fn put_place_in_mapping(out: &mut [u8], at: usize, place: usize) -> usize
+    ensures { λ r. ⌜ Put (placeInMapping place) (now (out .entry)) at (now (out .exit)) r ⌝ }
+{
+    if place == 0 {
+        return put_all(out, at, b", count");
+    }
+    let next = put_all(out, at, b", entry ");
+    put_decimal(out, next, place as u64)
 }
 
 fn put_lines(out: &mut [u8], at: usize, from: u64, to: u64) -> usize

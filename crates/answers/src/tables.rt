@@ -2,9 +2,12 @@
 ghost use mathlib.Core.Path.{_≡_};
 ghost use Rattle.texts.specs.Texts.{Put};
 ghost use Rattle.answers.specs.Answers.{refusalText, attributeText, expectedText, expectedPlace};
+use dictionary::refusals::COUNT_NOT_ZERO;
+use dictionary::refusals::MAPPING_TOO_LONG;
 use dictionary::refusals::NO_OBJECT;
 use dictionary::refusals::NO_SUB_INDEX;
 use dictionary::refusals::NOT_ALLOWED;
+use dictionary::refusals::NOT_MAPPABLE;
 use dictionary::refusals::READ_ONLY;
 use dictionary::refusals::STOPPED;
 use dictionary::refusals::TOO_HIGH;
@@ -46,11 +49,15 @@ pub fn put_meaning(out: &mut [u8], at: usize, number: u32) -> usize
         NOT_ALLOWED as u64,
         TOO_HIGH as u64,
         TOO_LOW as u64,
+        COUNT_NOT_ZERO as u64,
+        NOT_MAPPABLE as u64,
+        MAPPING_TOO_LONG as u64,
     ];
     let words = b"node number out of range;no such command;not 16 digital bytes;\
         not 16 analogue numbers;event buffer not 16 bytes;not 16 bytes and 8 numbers;\
         node stopped;no such object;no such sub-index;read only;data too long;data too short;\
-        value not allowed;value too high;value too low;refused";
+        value not allowed;value too high;value too low;count is not 0;\
+        entry cannot be mapped;more than 8 entries or 64 bits;refused";
     put_words(out, at, &numbers, words, number as u64)
 }
 
@@ -61,7 +68,8 @@ pub fn put_expected(out: &mut [u8], at: usize, expected: Expected) -> usize
     let words = b"a call or an index of 1 to 4 hexadecimal digits;1 or 2 hexadecimal digits;\
         a number from 0 to 255;a number from -32768 to 32767;internal or communication;\
         = between spaces, or the end of the line;/ and numbers;at most 64 in a buffer;\
-        the end of the line;at most 1,024 bytes;an answer before this line";
+        the end of the line;at most 1,024 bytes;an answer before this line;\
+        a number from 1 to 4";
     let n = expected_place(expected);
     put_all(out, at, entry(words, n))
 }
@@ -82,5 +90,6 @@ fn expected_place(expected: Expected) -> usize
         Expected::End => 8,
         Expected::Shorter => 9,
         Expected::Answer => 10,
+        Expected::Message => 11,
     }
 }

@@ -1,12 +1,15 @@
 -- Elements stored in an array, and what stays of it.
 -- Assumes nothing.
-use mathlib.Core.Path.{_≡_, refl, ap₂, _∙_}
+use mathlib.Core.Path.{_≡_, refl, ap₂, _∙_, sym}
+use mathlib.Core.Bool.{Bool, true, false}
 use mathlib.Core.List.{List}
 use Prim.Native.Nat.{ℕ, _+_, _*_, _≤_, _<_}
 use native.Mathlib.Omega.{arith}
-use lib.ListN.{length, getD, set, length-set}
-use lib.Seq.{getD-set-same, getD-set-other}
-use Rattle.channels.specs.View.{sourcesOf, Outside}
+use lib.Dec.{eqb, ltb}
+use borrow.Author.Tests.{eqb-true, eqb-false, ltb-true, ltb-false}
+use lib.ListN.{length, getD, set, replicate, length-set, length-replicate, getD-replicate}
+use lib.Seq.{getD-set-same, getD-set-other, ext-getD}
+use Rattle.channels.specs.View.{sourcesOf, Outside, Zeroed}
 
 -- ---- what stays
 
@@ -58,3 +61,52 @@ elsewhere b i n ne e = ne (omega arith)
 pub sources-kept : (octets octets′ : List ℕ) → ((k : ℕ) → 19 ≤ k → getD octets′ k 0 ≡ getD octets k 0)
     → sourcesOf octets′ ≡ sourcesOf octets
 sources-kept octets octets′ h = ap₂ (λ (a b : ℕ). a + 256 * b) (h 19 (omega arith)) (h 20 (omega arith))
+
+-- ---- elements that became 0
+
+pub zeroed-none : {a : ℕ} {xs : List ℕ} → Zeroed a a xs xs
+zeroed-none = record { zeros = λ k h l. absurd (omega (arith, h, l)); kept = outside-none }
+
+pub zeroed-more : {a k : ℕ} {xs ys : List ℕ} → a ≤ k → k < length xs → Zeroed a k xs ys → Zeroed a (k + 1) xs (set ys k 0)
+zeroed-more {a} {k} {xs} {ys} from h z =
+    record {
+      zeros = λ j f l. by j (eqb j k) refl f l;
+      kept =
+          record {
+            len = length-set ys k 0 ∙ z .kept .len;
+            low = λ j l. getD-set-other ys k j 0 0 (λ (q : j ≡ k). omega arith) ∙ z .kept .low j l;
+            high = λ j l. getD-set-other ys k j 0 0 (λ (q : j ≡ k). omega arith) ∙ z .kept .high j (omega arith);
+          };
+    }
+  where
+    by : (j : ℕ) (t : Bool) → eqb j k ≡ t → a ≤ j → j < k + 1 → getD (set ys k 0) j 0 ≡ 0
+    by j true q f l = rw (eqb-true j k q) (getD-set-same ys k 0 0 (omega (arith, h, z .kept .len)))
+    by j false q f l =
+        let ne : j ≡ k → ⊥ = eqb-false j k q in
+        getD-set-other ys k j 0 0 ne ∙ z .zeros j f (omega arith)
+
+-- one run of them after another
+pub zeroed-both : {a b c : ℕ} {xs ys zs : List ℕ} → a ≤ b → b ≤ c → Zeroed a b xs ys → Zeroed b c ys zs → Zeroed a c xs zs
+zeroed-both {a} {b} {c} {xs} {ys} {zs} h l p q =
+    record {
+      zeros = λ k f t. by k (ltb k b) refl f t;
+      kept =
+          record {
+            len = q .kept .len ∙ p .kept .len;
+            low = λ k t. q .kept .low k (omega arith) ∙ p .kept .low k t;
+            high = λ k t. q .kept .high k t ∙ p .kept .high k (omega arith);
+          };
+    }
+  where
+    by : (k : ℕ) (t : Bool) → ltb k b ≡ t → a ≤ k → k < c → getD zs k 0 ≡ 0
+    by k true e f t = let in-first = ltb-true k b e in q .kept .low k in-first ∙ p .zeros k f in-first
+    by k false e f t = q .zeros k (ltb-false k b e) t
+
+-- all of an array
+pub zeroed-all : {n : ℕ} {xs ys : List ℕ} → length xs ≡ n → Zeroed 0 n xs ys → ys ≡ replicate n 0
+zeroed-all {n} {xs} {ys} long z =
+    ext-getD 0 ys (replicate n 0) (z .kept .len ∙ long ∙ sym (length-replicate n 0))
+    (λ k h. z .zeros k (omega arith) (short k h) ∙ sym (getD-replicate n k 0 0 (short k h)))
+  where
+    short : (k : ℕ) → k < length ys → k < n
+    short k h = omega (arith, h, z .kept .len, long)

@@ -1,7 +1,7 @@
 -- Where the analogue channels stand in the arrays that the device lends. A field of channel n (from 0) is element n of its column; the
 -- columns of an array follow one another.
 -- octets: 3 of the node, then selection (16), then the source bits of all channels as a number of two bytes, the low one first.
--- flags: 4 of the node, then mode (8). limits: upper, lower. deltas: delta, negative, positive.
+-- flags: 4 of the node, then mode (8). limits: upper, lower. deltas: delta, negative, positive, then the mappings.
 -- values: last, reference (16 each), error, kept, driven (8 each).
 -- Assumes nothing.
 use mathlib.Core.Path.{_≡_}
@@ -85,3 +85,8 @@ pub record Outside {A : Type 0} (a b : ℕ) (d : A) (xs ys : List A) : Type 0 wh
   pub len : length ys ≡ length xs
   pub low : (k : ℕ) → k < a → getD ys k d ≡ getD xs k d
   pub high : (k : ℕ) → b ≤ k → getD ys k d ≡ getD xs k d
+
+-- the elements a to b - 1 became 0, and no other changed
+pub record Zeroed (a b : ℕ) (xs ys : List ℕ) : Type 0 where
+  pub zeros : (k : ℕ) → a ≤ k → k < b → getD ys k 0 ≡ 0
+  pub kept : Outside a b 0 xs ys

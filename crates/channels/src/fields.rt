@@ -2,20 +2,21 @@
 use profile::AnalogueInput;
 use profile::AnalogueOutput;
 ghost use mathlib.Core.Path.{_≡_};
-ghost use Prim.Native.Nat.{_+_, _*_, _<_};
-ghost use lib.ListN.{set};
+ghost use Prim.Native.Nat.{_+_, _*_, _≤_, _<_};
+ghost use lib.ListN.{length, getD, set};
+ghost use lib.IntN.{pos};
 ghost use Rattle.profile.specs.Bits.{bitAt};
 ghost use Rattle.channels.specs.View.{inputWith, inputAt, outputAt, drivenOf, sourcesOf, limitsSet, deltasSet, selectionSet};
-ghost use Rattle.channels.specs.View.{samplesSet, sourcesSet, outputSet, modeSet, modesSet};
+ghost use Rattle.channels.specs.View.{samplesSet, sourcesSet, outputSet, modeSet, modesSet, Zeroed};
 
-// How many elements each array of channels has.
+// How many elements each array that the device lends has; the mappings stand at the end of deltas.
 pub const OCTETS: usize = 21;
 
 pub const FLAGS: usize = 12;
 
 pub const LIMITS: usize = 32;
 
-pub const DELTAS: usize = 48;
+pub const DELTAS: usize = 120;
 
 pub const VALUES: usize = 56;
 
@@ -129,6 +130,27 @@ pub fn set_sample(values: &mut Values, n: usize, new: AnalogueInput)
     let reference = new.reference;
     values[n] = last;
     values[REFERENCE + n] = reference;
+}
+
+// y, the number last sampled.
+pub fn last_at(values: &Values, n: usize) -> i16
+    requires { ⌜ n < 16 ⌝ }
+    ensures { λ r. ⌜ r ≡ getD (now (values .entry)) n (pos 0) ⌝ }
+{
+    values[n]
+}
+
+// The elements from one on and before another become 0.
+pub fn zero_deltas(deltas: &mut Deltas, from: usize, to: usize)
+    requires { ⌜ (from ≤ to) × (to ≤ 120) ⌝ }
+    requires { ⌜ length (now deltas) ≡ 120 ⌝ }
+    ensures { λ _. ⌜ Zeroed from to (now (deltas .entry)) (now (deltas .exit)) ⌝ }
+{
+    let mut k = from;
+    while k < to {
+        deltas[k] = 0;
+        k += 1;
+    }
 }
 
 // The source bit of one channel.

@@ -17,13 +17,15 @@ use Rattle.profile.specs.declared.Node.{Node}
 use Rattle.profile.specs.declared.AnalogueInput.{AnalogueInput}
 use Rattle.profile.specs.declared.AnalogueOutput.{AnalogueOutput}
 use Rattle.profile.specs.Nodes.{addressed}
-use Rattle.profile.specs.Calls.{Call, command, Reply}
-use Rattle.profile.specs.Machines.{nodeAlone, inputLine, outputLine, analogueInput, analogueOutput, Machine}
+use Rattle.profile.specs.Calls.{command, Call, direct, Reply}
+use Rattle.profile.specs.Machines.{nodeAlone, inputLine, outputLine, analogueInput, analogueOutput, mapping, Machine}
 use Rattle.profile.specs.Outcome.{Same}
 use Rattle.profile.proofs.BitLaws.{same-bits}
 use Rattle.lines.proofs.ColumnLaws.{end, _▸_, all-at}
 use Rattle.lines.proofs.DeterminedLaws.{same-words}
 use Rattle.channels.specs.View.{sourcesOf}
+use Rattle.mappings.specs.View.{mappingAt}
+use Rattle.mappings.proofs.ViewLaws.{same-mappings}
 use Rattle.store.specs.View.{stateNumber, nodeAt, partsOf}
 use Rattle.device.specs.declared.Device.{Device}
 use Rattle.device.specs.View.{storeOf, machinesOf, Normal}
@@ -67,6 +69,9 @@ module _ (a b : Device) (p : Allowed a) (q : Allowed b) (u : Normal a) (v : Norm
 
   output : (i : ℕ) → i < 8 → partsOf (storeOf a) .outputs i ≡ partsOf (storeOf b) .outputs i
   output i h = ap (λ (m : Machine analogueOutput). m .own) (s .at analogueOutput i h)
+
+  map : (i : ℕ) → i < 8 → mappingAt (a .deltas) i ≡ mappingAt (b .deltas) i
+  map i h = ap (λ (m : Machine mapping). m .own) (s .at mapping i h)
 
   state : getD (a .octets) 1 0 ≡ getD (b .octets) 1 0
   state = sym (u .state) ∙ ap (λ (n : Node). stateNumber (n .state)) node ∙ v .state
@@ -116,11 +121,13 @@ module _ (a b : Device) (p : Allowed a) (q : Allowed b) (u : Normal a) (v : Norm
 
   deltas : a .deltas ≡ b .deltas
   deltas =
-      same-array 0 48 (a .deltas) (b .deltas) (p .sized .deltas) (q .sized .deltas)
+      same-array 0 120 (a .deltas) (b .deltas) (p .sized .deltas) (q .sized .deltas)
+      (split (a .deltas) (b .deltas) 0 48 72
       (split (a .deltas) (b .deltas) 0 32 16
       (split (a .deltas) (b .deltas) 0 16 16 (λ i h. ap (λ (m : AnalogueInput). m .delta) (input i h))
       (λ i h. ap (λ (m : AnalogueInput). m .negative) (input i h)))
       (λ i h. ap (λ (m : AnalogueInput). m .positive) (input i h)))
+      (same-mappings (a .deltas) (b .deltas) map))
 
   values : a .values ≡ b .values
   values =
@@ -156,7 +163,7 @@ pub refused-very-device : (d r : Device) (c : Call) (a : Reply) → Ensured d c 
 refused-very-device d r c a o ne = same-device r d (o .untouched ne)
 
 -- so does a command for another node
-pub passed-by-very-device : (d r : Device) (code to : ℕ) (a : Reply) → Ensured d (command code to) a r
+pub passed-by-very-device : (d r : Device) (code to : ℕ) (a : Reply) → Ensured d (direct (command code to)) a r
     → addressed to (nodeAt (d .octets) (d .flags)) ≡ false → r ≡ d
 passed-by-very-device d r code to a o e = same-device r d (o .passed-by (ap not e))
 

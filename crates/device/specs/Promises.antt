@@ -16,7 +16,7 @@ use Rattle.device.specs.View.{storeOf}
 abbrev pub CreatedAs : ℕ → Created → Type 0
 CreatedAs number r = FreshAs number (r .number) (storeOf (r .device))
 
--- the promise of each of the seven other calls: the complete outcome for the machines; a refused call and a command for another node
+-- the promise of each other call: the complete outcome for the machines; a refused call and a command for another node
 -- leave every array; a device whose state's byte is normal stays so
 abbrev pub Ensured : Device → Call → Reply → Device → Type 0
 Ensured before c r left = store.Ensured (storeOf before) c r (storeOf left)

@@ -4,12 +4,13 @@ use mathlib.Core.List.{List, []}
 use Prim.Native.Nat.{ℕ}
 use lib.IntN.{ℤ}
 use Rattle.profile.specs.Calls.{Reply}
-use Rattle.profile.specs.Replies.{Machines}
+use Rattle.profile.specs.Heard.{Machines}
 use Rattle.store.specs.View as store
 use Rattle.store.specs.View.{Store, held}
 use Rattle.device.specs.declared.Device.{Device}
 use Rattle.device.specs.declared.ReadAnswer.{ReadAnswer}
 use Rattle.device.specs.declared.SampleAnswer.{SampleAnswer}
+use Rattle.device.specs.declared.TransmitAnswer.{TransmitAnswer}
 use Rattle.device.specs.declared.Answer.{Answer}
 
 -- ---- the device
@@ -30,16 +31,20 @@ Normal d = store.Normal (storeOf d)
 
 -- what a read hands back beside the device
 abbrev pub readAnswer : ReadAnswer → Reply
-readAnswer r = record { number = r .number; value = r .value; size = r .size; events = 0; bytes = []; numbers = [] }
+readAnswer r = record { number = r .number; value = r .value; size = r .size; events = 0; count = 0; bytes = []; numbers = [] }
 
 -- a sample, with the event buffer as it is afterwards
 abbrev pub sampleAnswer : SampleAnswer → List ℕ → Reply
-sampleAnswer r bytes = record { number = r .number; value = 0; size = 0; events = r .events; bytes = bytes; numbers = [] }
+sampleAnswer r bytes = record { number = r .number; value = 0; size = 0; events = r .events; count = 0; bytes = bytes; numbers = [] }
 
 -- a call that hands back its number alone
 abbrev pub plainAnswer : Answer → Reply
-plainAnswer r = record { number = r .number; value = 0; size = 0; events = 0; bytes = []; numbers = [] }
+plainAnswer r = record { number = r .number; value = 0; size = 0; events = 0; count = 0; bytes = []; numbers = [] }
 
 -- a drive, with both buffers as they are afterwards
 abbrev pub driveAnswer : Answer → List ℕ → List ℤ → Reply
-driveAnswer r bytes numbers = record { number = r .number; value = 0; size = 0; events = 0; bytes = bytes; numbers = numbers }
+driveAnswer r bytes numbers = record { number = r .number; value = 0; size = 0; events = 0; count = 0; bytes = bytes; numbers = numbers }
+
+-- a transmit, with the frame as it is afterwards
+abbrev pub transmitAnswer : TransmitAnswer → List ℕ → Reply
+transmitAnswer r frame = record { number = r .number; value = 0; size = 0; events = 0; count = r .count; bytes = frame; numbers = [] }

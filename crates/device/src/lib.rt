@@ -1,4 +1,4 @@
-// The device of document 01: six arrays, and its eight calls as methods. Every call is refused or accepted on every input.
+// The device of documents 01 and 02: six arrays, and its ten calls as methods. Every call is refused or accepted on every input.
 use channels::fields::Deltas;
 use channels::fields::Flags;
 use channels::fields::Limits;
@@ -6,10 +6,13 @@ use channels::fields::Octets;
 use channels::fields::Values;
 use windows::Words;
 
-// The eight calls as methods.
+// receive and transmit as methods.
+pub mod frames;
+// The eight calls of document 01 as methods.
 pub mod methods;
 
-// By element type: bytes, flags, the words of the lines, the limits, the deltas and the values of the channels.
+// By element type: bytes, flags, the words of the lines, the limits of the channels, their deltas and the mappings, the values of the
+// channels.
 pub struct Device {
     pub octets: Octets,
     pub flags: Flags,
@@ -42,7 +45,15 @@ pub struct SampleAnswer {
     pub device: Device,
 }
 
-// What a write, a command, a raise, a clear and a drive hand back.
+// What a transmit hands back, beside the frame.
+pub struct TransmitAnswer {
+    pub number: u32,
+    // Of bytes written.
+    pub count: usize,
+    pub device: Device,
+}
+
+// What a write, a command, a raise, a clear, a drive and a receive hand back.
 pub struct Answer {
     pub number: u32,
     pub device: Device,

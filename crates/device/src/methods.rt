@@ -1,4 +1,5 @@
-// The eight calls as methods: the device comes by value and goes back with the answer. Each copies the arrays, lends them to the call in
+// The eight calls of document 01 as methods: the device comes by value and goes back with the answer. Each copies the arrays, lends them
+// to the call in
 // place, and stores them back.
 use crate::Answer;
 use crate::Created;
@@ -11,12 +12,8 @@ use channels::fields::LIMITS;
 use channels::fields::OCTETS;
 use channels::fields::VALUES;
 use profile::Cause;
-use profile::Node;
-use store::node_at;
 use windows::WORDS;
-ghost use mathlib.Core.Path.{_≡_};
-ghost use Rattle.profile.specs.Calls.{Call};
-ghost use Rattle.store.specs.View.{nodeAt};
+ghost use Rattle.profile.specs.Calls.{Plain, direct};
 ghost use Rattle.device.specs.View.{readAnswer, sampleAnswer, plainAnswer, driveAnswer};
 ghost use Rattle.device.specs.Promises.{CreatedAs, Ensured};
 
@@ -55,7 +52,7 @@ impl Device {
     }
 
     pub fn read(mut self, index: u16, sub: u8) -> ReadAnswer
-        ensures { λ r. ⌜ Ensured self (Call.read index sub) (readAnswer r) (r .device) ⌝ }
+        ensures { λ r. ⌜ Ensured self (direct (Plain.read index sub)) (readAnswer r) (r .device) ⌝ }
     {
         let mut octets = self.octets;
         let flags = self.flags;
@@ -83,7 +80,7 @@ impl Device {
     }
 
     pub fn write(mut self, index: u16, sub: u8, bytes: &[u8]) -> Answer
-        ensures { λ r. ⌜ Ensured self (Call.write index sub (now (bytes .entry))) (plainAnswer r) (r .device) ⌝ }
+        ensures { λ r. ⌜ Ensured self (direct (Plain.write index sub (now (bytes .entry)))) (plainAnswer r) (r .device) ⌝ }
     {
         let mut octets = self.octets;
         let mut flags = self.flags;
@@ -115,7 +112,7 @@ impl Device {
     }
 
     pub fn sample(mut self, digital: &[u8], analogue: &[i16], events: &mut [u8]) -> SampleAnswer
-        ensures { λ r. ⌜ Ensured self (Call.sample (now (digital .entry)) (now (analogue .entry)) (now (events .entry)))
+        ensures { λ r. ⌜ Ensured self (direct (Plain.sample (now (digital .entry)) (now (analogue .entry)) (now (events .entry))))
             (sampleAnswer r (now (events .exit))) (r .device) ⌝ }
     {
         let mut octets = self.octets;
@@ -146,7 +143,7 @@ impl Device {
     }
 
     pub fn command(mut self, code: u8, node: u8) -> Answer
-        ensures { λ r. ⌜ Ensured self (Call.command code node) (plainAnswer r) (r .device) ⌝ }
+        ensures { λ r. ⌜ Ensured self (direct (Plain.command code node)) (plainAnswer r) (r .device) ⌝ }
     {
         let mut octets = self.octets;
         let mut flags = self.flags;
@@ -177,7 +174,7 @@ impl Device {
     }
 
     pub fn raise(mut self, cause: Cause) -> Answer
-        ensures { λ r. ⌜ Ensured self (Call.raise cause) (plainAnswer r) (r .device) ⌝ }
+        ensures { λ r. ⌜ Ensured self (direct (Plain.raise cause)) (plainAnswer r) (r .device) ⌝ }
     {
         let mut octets = self.octets;
         let mut flags = self.flags;
@@ -195,7 +192,7 @@ impl Device {
     }
 
     pub fn clear(mut self, cause: Cause) -> Answer
-        ensures { λ r. ⌜ Ensured self (Call.clear cause) (plainAnswer r) (r .device) ⌝ }
+        ensures { λ r. ⌜ Ensured self (direct (Plain.clear cause)) (plainAnswer r) (r .device) ⌝ }
     {
         let mut octets = self.octets;
         let mut flags = self.flags;
@@ -213,7 +210,7 @@ impl Device {
     }
 
     pub fn drive(self, lines: &mut [u8], channels: &mut [i16]) -> Answer
-        ensures { λ r. ⌜ Ensured self (Call.drive (now (lines .entry)) (now (channels .entry)))
+        ensures { λ r. ⌜ Ensured self (direct (Plain.drive (now (lines .entry)) (now (channels .entry))))
             (driveAnswer r (now (lines .exit)) (now (channels .exit))) (r .device) ⌝ }
     {
         let words = self.words;
@@ -223,14 +220,5 @@ impl Device {
             number,
             device: self,
         }
-    }
-
-    // The node that the arrays hold.
-    pub fn node(self) -> Node
-        ensures { λ r. ⌜ r ≡ nodeAt (self .octets) (self .flags) ⌝ }
-    {
-        let octets = self.octets;
-        let flags = self.flags;
-        node_at(&octets, &flags)
     }
 }

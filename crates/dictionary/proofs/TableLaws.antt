@@ -2,7 +2,7 @@
 -- Assumes nothing.
 use mathlib.Core.Path.{_≡_, refl, sym, ap, _∙_, subst}
 use mathlib.Core.Bool.{Bool, true, false, cond, _&&_}
-use mathlib.Core.List.{List, [], _∷_}
+use mathlib.Core.List.{List, [], _∷_, _++_}
 use Prim.Native.Nat.{ℕ, zero, suc, _+_, _*_, _/_, _%_, _^_, _≤_, _<_, suc-le-suc}
 use native.Mathlib.Nat.{add-zero, zero-add, add-suc, suc-add, le-of-suc-le-suc, not-suc-le-zero, zero-lt-suc, mod-lt}
 use native.Mathlib.Omega.{arith}
@@ -11,7 +11,8 @@ use lib.ListN.{length, getD, take, drop}
 use borrow.Author.Tests.{ne-eqb, eqb-true, eqb-false, lt-ltb, le-ltb}
 use Rattle.profile.specs.Bytes.{listFrom}
 use Rattle.dictionary.specs.Lookup.{keyOf, placeWord}
-use Rattle.profile.specs.Entries.{table, widthOf, place, absentEntry, at, Row, window, lookup, objectOf, entryAt, entryOf}
+use Rattle.profile.specs.Entries.{table, widthOf, place, absentEntry, at, Row, window, mappingObject, mappingObjects, lookup}
+use Rattle.profile.specs.Entries.{objectOf, entryAt, entryOf}
 use Rattle.profile.proofs.ListLaws.{listFrom-at}
 
 -- ---- a rule at each entry of a list, by one test that antt computes
@@ -166,9 +167,55 @@ first-of : (B : Type 0) (rs : List Row) (x : ℕ) → Missed B rs x → B
 first-of B [] x m = m
 first-of B (r ∷ rs) x m = first-of (B × (x ≡ r .index → ⊥)) rs x m .0
 
-pub missed : (B : Type 0) (sub : ℕ) (rs : List Row) (x : ℕ) → Missed B rs x → lookup sub rs x ≡ absentEntry 0x06020000
-missed B sub [] x m = refl
-missed B sub (r ∷ rs) x m =
-    ap (λ (t : Bool). elim t [ true ↦ at sub (r .object) | false ↦ lookup sub rs x ])
+pub missed : (B : Type 0) (sub : ℕ) (rs rest : List Row) (x : ℕ) → Missed B rs x → lookup sub (rs ++ rest) x ≡ lookup sub rest x
+missed B sub [] rest x m = refl
+missed B sub (r ∷ rs) rest x m =
+    ap (λ (t : Bool). elim t [ true ↦ at sub (r .object) | false ↦ lookup sub (rs ++ rest) x ])
     (ne-eqb x (r .index) (first-of (B × (x ≡ r .index → ⊥)) rs x m .1))
-    ∙ missed (B × (x ≡ r .index → ⊥)) sub rs x m
+    ∙ missed (B × (x ≡ r .index → ⊥)) sub rs rest x m
+
+-- ---- the mappings, by the index without its last two bits
+
+module _ (sub : ℕ) where
+  received : (r : ℕ) → r < 4 → lookup sub (mappingObjects sub) (0x1600 + r) ≡ at sub (mappingObject r sub)
+  received zero h = refl
+  received (suc zero) h = refl
+  received (suc (suc zero)) h = refl
+  received (suc (suc (suc zero))) h = refl
+  received (suc (suc (suc (suc r)))) h = absurd (omega arith)
+
+  transmitted : (r : ℕ) → r < 4 → lookup sub (mappingObjects sub) (0x1A00 + r) ≡ at sub (mappingObject (4 + r) sub)
+  transmitted zero h = refl
+  transmitted (suc zero) h = refl
+  transmitted (suc (suc zero)) h = refl
+  transmitted (suc (suc (suc zero))) h = refl
+  transmitted (suc (suc (suc (suc r)))) h = absurd (omega arith)
+
+  pub receive-object : (x : ℕ) → x / 4 ≡ 0x580 → lookup sub (mappingObjects sub) x ≡ at sub (mappingObject (x % 4) sub)
+  receive-object x e = let q : x ≡ 0x1600 + x % 4 = omega arith in ap (lookup sub (mappingObjects sub)) q ∙ received (x % 4) (omega arith)
+
+  pub transmit-object : (x : ℕ) → x / 4 ≡ 0x680 → lookup sub (mappingObjects sub) x ≡ at sub (mappingObject (4 + x % 4) sub)
+  transmit-object x e = let q : x ≡ 0x1A00 + x % 4 = omega arith in ap (lookup sub (mappingObjects sub)) q ∙ transmitted (x % 4)
+      (omega arith)
+
+  pub no-mapping : (x : ℕ) → (x / 4 ≡ 0x580 → ⊥) → (x / 4 ≡ 0x680 → ⊥) → lookup sub (mappingObjects sub) x ≡ absentEntry 0x06020000
+  no-mapping x p q =
+      missed (Unit {0}) sub (mappingObjects sub) [] x (
+        (
+          (
+            (
+              ((((tt, a 0x1600 refl), a 0x1601 refl), a 0x1602 refl), a 0x1603 refl),
+              b 0x1A00 refl,
+            ),
+            b 0x1A01 refl,
+          ),
+          b 0x1A02 refl,
+        ),
+        b 0x1A03 refl,
+      )
+    where
+      a : (n : ℕ) → n / 4 ≡ 0x580 → x ≡ n → ⊥
+      a n e h = p (ap (λ (y : ℕ). y / 4) h ∙ e)
+
+      b : (n : ℕ) → n / 4 ≡ 0x680 → x ≡ n → ⊥
+      b n e h = q (ap (λ (y : ℕ). y / 4) h ∙ e)

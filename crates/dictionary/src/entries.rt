@@ -1,4 +1,4 @@
-// The object dictionary of document 01: which entry an index and a sub-index name.
+// The object dictionary of documents 01 and 02: which entry an index and a sub-index name.
 use crate::refusals::NO_OBJECT;
 use crate::refusals::NO_SUB_INDEX;
 use profile::Entry;
@@ -6,8 +6,8 @@ use profile::Home;
 ghost use mathlib.Core.Path.{_≡_};
 ghost use Prim.Native.Nat.{_<_, _-_};
 ghost use Rattle.dictionary.specs.Lookup.{placeWord};
-ghost use Rattle.profile.specs.Entries.{table, place, widthOf, absentEntry, at, object, reading, setting, short, window, objectOf};
-ghost use Rattle.profile.specs.Entries.{entryOf, notAllowed};
+ghost use Rattle.profile.specs.Entries.{table, place, widthOf, absentEntry, at, object, reading, setting, short, window};
+ghost use Rattle.profile.specs.Entries.{mappingObject, mappingObjects, lookup, objectOf, entryOf, notAllowed};
 
 // The indices of 1, 8, 16 and 32 bits, a row for each attribute of digital lines.
 const INDICES: [[u16; 4]; 11] = [
@@ -192,6 +192,42 @@ fn window(row: usize, column: usize, sub: u8) -> Entry
     }
 }
 
+// A process data mapping: which of the eight. Its entry count is written.
+fn mapping(sub: u8, m: usize) -> Entry
+    ensures { λ r. ⌜ r ≡ at sub (mappingObject m sub) ⌝ }
+{
+    let home = Home::MappingEntry(m, sub as usize);
+    if sub == 0 {
+        return Entry {
+            absent: 0,
+            size: 1,
+            fixed: false,
+            short: false,
+            lowest: 0,
+            highest: ANY,
+            home,
+        };
+    }
+    at(sub, 8, 4, false, false, 0, ANY, home)
+}
+
+// 1600 to 1603, and 1A00 to 1A03: by the index without its last two bits. A higher index is no mapping at the first comparison.
+fn mapping_object(index: u16, sub: u8) -> Entry
+    ensures { λ r. ⌜ r ≡ lookup sub (mappingObjects sub) index ⌝ }
+{
+    if 0x1A03 < index {
+        return absent(NO_OBJECT);
+    }
+    let m = (index % 4) as usize;
+    if index / 4 == 0x580 {
+        return mapping(sub, m);
+    }
+    if index / 4 == 0x680 {
+        return mapping(sub, 4 + m);
+    }
+    absent(NO_OBJECT)
+}
+
 // The objects outside the table of digital lines.
 fn object(index: u16, sub: u8) -> Entry
     ensures { λ r. ⌜ r ≡ objectOf index sub ⌝ }
@@ -214,6 +250,6 @@ fn object(index: u16, sub: u8) -> Entry
         0x6428 => setting(sub, 16, 4, 0, ANY, Home::InputChannel(index, n)),
         0x6443 => setting(sub, 8, 1, 0, 1, Home::OutputChannel(index, n)),
         0x6444 => short(sub, 8, Home::OutputChannel(index, n)),
-        _ => absent(NO_OBJECT),
+        _ => mapping_object(index, sub),
     }
 }

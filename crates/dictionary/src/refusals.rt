@@ -1,4 +1,4 @@
-// Document 01, "Where each refusal is checked": a return for each row, in the table's order. 0 is accepted.
+// Document 01, "Where each refusal is checked", and document 02's rows: a return for each row, in the table's order. 0 is accepted.
 use crate::entries::forbids;
 use profile::Entry;
 use profile::commands::ENTER_PRE_OPERATIONAL;
@@ -8,7 +8,7 @@ use profile::commands::START;
 use profile::commands::STOP;
 ghost use mathlib.Core.Path.{_≡_};
 ghost use Rattle.profile.specs.Refusals.{first, entryChecks, accessChecks, valueChecks, createRefusal, isCommand, commandRefusal};
-ghost use Rattle.profile.specs.Refusals.{sampleRefusal, driveRefusal};
+ghost use Rattle.profile.specs.Refusals.{sampleRefusal, driveRefusal, transmitRefusal};
 
 // SDO abort codes.
 pub const STOPPED: u32 = 0x0800_0022;
@@ -29,9 +29,16 @@ pub const TOO_HIGH: u32 = 0x0609_0031;
 
 pub const TOO_LOW: u32 = 0x0609_0032;
 
+// Of a mapping: an entry while the count is not 0; an entry that cannot be mapped; more than eight entries or 64 bits.
+pub const COUNT_NOT_ZERO: u32 = 0x0601_0000;
+
+pub const NOT_MAPPABLE: u32 = 0x0604_0041;
+
+pub const MAPPING_TOO_LONG: u32 = 0x0604_0042;
+
 // The rows that a read and a write share.
 pub fn entry_refusal(stopped: bool, entry: Entry) -> u32
-    ensures { λ r. ⌜ r ≡ first (entryChecks (record { stopped = stopped }) entry) ⌝ }
+    ensures { λ r. ⌜ r ≡ first (entryChecks stopped entry) ⌝ }
 {
     if stopped {
         return STOPPED;
@@ -41,7 +48,7 @@ pub fn entry_refusal(stopped: bool, entry: Entry) -> u32
 
 // A write's rows before its value is read, by the length of its data.
 pub fn access_refusal(stopped: bool, entry: Entry, size: usize) -> u32
-    ensures { λ r. ⌜ r ≡ first (accessChecks (record { stopped = stopped }) entry size) ⌝ }
+    ensures { λ r. ⌜ r ≡ first (accessChecks stopped entry size) ⌝ }
 {
     if stopped {
         return STOPPED;
@@ -124,6 +131,16 @@ pub fn sample_refusal(digital: usize, analogue: usize, events: usize) -> u32
         return 4;
     }
     if events != 16 {
+        return 5;
+    }
+    0
+}
+
+// By the length of the frame buffer.
+pub fn transmit_refusal(frame: usize) -> u32
+    ensures { λ r. ⌜ r ≡ transmitRefusal frame ⌝ }
+{
+    if frame != 8 {
         return 5;
     }
     0

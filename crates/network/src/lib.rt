@@ -8,12 +8,15 @@ use channels::fields::Values;
 use dictionary::refusals::command_refusal;
 use dictionary::refusals::create_refusal;
 use lines::machines::move_outputs;
+use mappings::empty_received;
+use mappings::empty_transmitted;
 use nodes::cleared;
 use nodes::in_fault;
 use nodes::is_addressed;
 use nodes::obeyed;
 use nodes::raised;
 use profile::Cause;
+use profile::commands::RESET_COMMUNICATION;
 use profile::commands::RESET_NODE;
 use store::lend;
 use store::lend_settings;
@@ -22,11 +25,12 @@ use store::set_fresh;
 use store::set_node;
 use windows::Words;
 ghost use mathlib.Core.Path.{_≡_};
+ghost use lib.Dec.{eqb};
 ghost use lib.ListN.{length};
-ghost use Rattle.profile.specs.Calls.{Call};
+ghost use Rattle.profile.specs.Calls.{Plain, direct};
 ghost use Rattle.profile.specs.Replies.{plain};
 ghost use Rattle.store.specs.View.{held};
-ghost use Rattle.store.specs.Promises.{FreshAs, Ensured, EnsuredBeside, Followed};
+ghost use Rattle.store.specs.Promises.{FreshAs, Ensured, EnsuredBeside, Followed, ZeroedIf};
 
 // A refused node number gives a device with node number 127.
 pub fn create(
@@ -64,7 +68,7 @@ pub fn command(
     ensures { λ r. ⌜ Ensured
         (held (now (octets .entry)) (now (flags .entry)) (now (words .entry)) (now (limits .entry)) (now (deltas .entry))
         (now (values .entry)))
-        (Call.command code to) (plain r)
+        (direct (Plain.command code to)) (plain r)
         (held (now (octets .exit)) (now (flags .exit)) (now (words .exit)) (now (limits .exit)) (now (deltas .exit))
         (now (values .exit))) ⌝ }
 {
@@ -83,7 +87,9 @@ pub fn command(
         return 0;
     }
     let new = obeyed(was, code);
+    reset_received(deltas, code);
     set_node(octets, flags, new);
+    reset_transmitted(deltas, code);
     follow_fault(flags, words, values, in_fault(was), in_fault(new));
     0
 }
@@ -96,7 +102,7 @@ pub fn raise(
     cause: Cause,
 ) -> u32
     ensures { λ r. ⌜ EnsuredBeside (now (octets .entry)) (now (flags .entry)) (now (words .entry)) (now (values .entry))
-        (Call.raise cause) (plain r)
+        (direct (Plain.raise cause)) (plain r)
         (now (octets .exit)) (now (flags .exit)) (now (words .exit)) (now (values .exit)) ⌝ }
 {
     lend(octets, flags, words, values);
@@ -115,7 +121,7 @@ pub fn clear(
     cause: Cause,
 ) -> u32
     ensures { λ r. ⌜ EnsuredBeside (now (octets .entry)) (now (flags .entry)) (now (words .entry)) (now (values .entry))
-        (Call.clear cause) (plain r)
+        (direct (Plain.clear cause)) (plain r)
         (now (octets .exit)) (now (flags .exit)) (now (words .exit)) (now (values .exit)) ⌝ }
 {
     lend(octets, flags, words, values);
@@ -124,6 +130,25 @@ pub fn clear(
     set_node(octets, flags, new);
     follow_fault(flags, words, values, in_fault(was), in_fault(new));
     0
+}
+
+// Reset communication empties the mappings.
+fn reset_received(deltas: &mut Deltas, code: u8)
+    requires { ⌜ length (now deltas) ≡ 120 ⌝ }
+    ensures { λ _. ⌜ ZeroedIf (eqb code 130) 48 84 (now (deltas .entry)) (now (deltas .exit)) ⌝ }
+{
+    if code == RESET_COMMUNICATION {
+        empty_received(deltas);
+    }
+}
+
+fn reset_transmitted(deltas: &mut Deltas, code: u8)
+    requires { ⌜ length (now deltas) ≡ 120 ⌝ }
+    ensures { λ _. ⌜ ZeroedIf (eqb code 130) 84 120 (now (deltas .entry)) (now (deltas .exit)) ⌝ }
+{
+    if code == RESET_COMMUNICATION {
+        empty_transmitted(deltas);
+    }
 }
 
 // Where fault begins or ends every output moves.

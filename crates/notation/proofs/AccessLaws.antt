@@ -16,7 +16,7 @@ use Rattle.words.specs.Numbers.{shortNumber}
 use Rattle.words.specs.Items.{byteItem, itemsOf}
 use Rattle.notation.specs.Meanings.{Meaning, indexOf, subIndexOf, accessMeaning, entryMeaning, writeMeaning, wordsMeaning, meaningOf}
 use Rattle.notation.specs.Meanings.Meaning.{nothing, unknown, call}
-use Rattle.words.proofs.SplitLaws.{words-none, words-more}
+use Rattle.words.proofs.SplitLaws.{words-none, words-more, same-word}
 use Rattle.notation.proofs.MeaningLaws.{yes, no, blank, not-blank}
 
 pub sub-none : (part : List ℕ) → length part ≡ 0 → 0 ≡ subIndexOf part
@@ -65,7 +65,7 @@ module _ (w rest front : List ℕ) (n index : ℕ) (colon : InFront false 58 w n
           ∙ ap (λ k. entryMeaning k (subIndexOf (drop (run false 58 w) w)) (wordsOf rest)) (sym index-is)
           ∙ ap (λ k. entryMeaning index k (wordsOf rest)) (sym sub-is)
 
-      pub access-read : b ≡ true → accessMeaning w (wordsOf rest) ≡ call (Doc.Call.read index sub)
+      pub access-read : b ≡ true → accessMeaning w (wordsOf rest) ≡ call (Doc.direct (Doc.Plain.read index sub))
       access-read e = access-entry ∙ ap (entryMeaning index sub) (words-none rest (blank rest b is e))
 
       module _ (e : b ≡ false) (mark : List ℕ) (first : mark ≡ firstWord rest) where
@@ -87,6 +87,10 @@ module _ (w rest front : List ℕ) (n index : ℕ) (colon : InFront false 58 w n
             access-mark
             ∙ yes (isWord mark (ascii "=")) (writeMeaning index sub (itemsOf byteItem 512 (wordsOf (afterWord rest)))) (unknown Ex.Data) j
             ∙ ap (λ (l : List ℕ). writeMeaning index sub (itemsOf byteItem 512 (wordsOf l))) (sym others)
+
+-- a word's test, as the code makes it
+pub tested : (a b : List ℕ) (r t : Bool) → ((r ≡ true → a ≡ b) × (a ≡ b → r ≡ true)) → r ≡ t → isWord a b ≡ t
+tested a b r t h e = sym (same-word a b r h) ∙ e
 
 -- the first word of a line and the words after it
 module _ (line text word rest : List ℕ) (content : text ≡ contentOf line) (first : word ≡ firstWord text)

@@ -2,3 +2,4 @@
 -- Assumes nothing.
 pub mod MeaningLaws
 pub mod AccessLaws
+pub mod MessageLaws

@@ -42,10 +42,10 @@ module _ (l : List ℕ) (r : Bool) (is : r ≡ isBlank l) where
   pub not-blank : r ≡ false → length (firstWord l) ≡ 0 → ⊥
   not-blank e = eqb-false (length (firstWord l)) 0 (sym is ∙ e)
 
-  ends : (m : Meaning) → r ≡ true → atEnd m (wordsOf l) ≡ m
+  pub ends : (m : Meaning) → r ≡ true → atEnd m (wordsOf l) ≡ m
   ends m e = ap (atEnd m) (words-none l (blank e))
 
-  goes-on : (m : Meaning) → r ≡ false → atEnd m (wordsOf l) ≡ unknown Ex.End
+  pub goes-on : (m : Meaning) → r ≡ false → atEnd m (wordsOf l) ≡ unknown Ex.End
   goes-on m e = ap (atEnd m) (words-more l (not-blank e))
 
 small-no : (w : List ℕ) (m : Meaning) (n : ℕ) → n ≡ numberOf 10 w → 255 < n → small w m ≡ unknown Ex.Small
@@ -59,7 +59,7 @@ module _ (rest w : List ℕ) (n : ℕ) (number : n ≡ numberOf 10 w) (first : w
   abbrev m·create : Meaning
   m·create = create (numberOf 10 (firstOf (wordsOf rest)))
 
-  number-first : n ≡ numberOf 10 (firstOf (wordsOf rest))
+  pub number-first : n ≡ numberOf 10 (firstOf (wordsOf rest))
   number-first = number ∙ ap (numberOf 10) (first-of rest w first)
 
   pub create-small : 255 < n → createMeaning (wordsOf rest) ≡ unknown Ex.Small
@@ -71,7 +71,7 @@ module _ (rest w : List ℕ) (n : ℕ) (number : n ≡ numberOf 10 w) (first : w
   command-small h =
       let ws = othersOf (wordsOf rest) in
       small-no (firstOf (wordsOf rest))
-      (small (firstOf ws) (atEnd (call (Doc.Call.command (numberOf 10 (firstOf (wordsOf rest))) (numberOf 10 (firstOf ws))))
+      (small (firstOf ws) (atEnd (call (Doc.direct (Doc.Plain.command (numberOf 10 (firstOf (wordsOf rest))) (numberOf 10 (firstOf ws)))))
       (othersOf ws))) n number-first h
 
   module _ (after : List ℕ) (others : after ≡ afterWord rest) (fits : n ≤ 255) where
@@ -89,7 +89,8 @@ module _ (rest w : List ℕ) (n : ℕ) (number : n ≡ numberOf 10 w) (first : w
     -- and a second one
     module _ (w2 : List ℕ) (n2 : ℕ) (number2 : n2 ≡ numberOf 10 w2) (first2 : w2 ≡ firstWord after) where
       abbrev m·command : Meaning
-      m·command = call (Doc.Call.command (numberOf 10 (firstOf (wordsOf rest))) (numberOf 10 (firstOf (othersOf (wordsOf rest)))))
+      m·command = call (Doc.direct (Doc.Plain.command (numberOf 10 (firstOf (wordsOf rest)))
+          (numberOf 10 (firstOf (othersOf (wordsOf rest))))))
 
       second : n2 ≡ numberOf 10 (firstOf (othersOf (wordsOf rest)))
       second = number2 ∙ ap (numberOf 10) (first-of after w2 first2) ∙ ap (λ (ws : List (List ℕ)). numberOf 10 (firstOf ws))
@@ -116,22 +117,22 @@ module _ (rest w : List ℕ) (n : ℕ) (number : n ≡ numberOf 10 w) (first : w
         pub command-more : r ≡ false → commandMeaning (wordsOf rest) ≡ unknown Ex.End
         command-more e = command-last ∙ goes-on last r is m·command e
 
-        pub command-is : r ≡ true → commandMeaning (wordsOf rest) ≡ call (Doc.Call.command n n2)
+        pub command-is : r ≡ true → commandMeaning (wordsOf rest) ≡ call (Doc.direct (Doc.Plain.command n n2))
         command-is e =
             command-last
             ∙ ends last r is m·command e
-            ∙ ap (λ k. call (Doc.Call.command k (numberOf 10 (firstOf (othersOf (wordsOf rest)))))) (sym number-first)
-            ∙ ap (λ k. call (Doc.Call.command n k)) (sym second)
+            ∙ ap (λ k. call (Doc.direct (Doc.Plain.command k (numberOf 10 (firstOf (othersOf (wordsOf rest))))))) (sym number-first)
+            ∙ ap (λ k. call (Doc.direct (Doc.Plain.command n k))) (sym second)
 
 -- a command by name
 module _ (code : ℕ) (rest : List ℕ) (b : Bool) (is-blank : b ≡ isBlank rest) where
-  pub named-all : b ≡ true → namedMeaning code (wordsOf rest) ≡ call (Doc.Call.command code 0)
+  pub named-all : b ≡ true → namedMeaning code (wordsOf rest) ≡ call (Doc.direct (Doc.Plain.command code 0))
   unfolding namedMeaning
   named-all e = ap (namedMeaning code) (words-none rest (blank rest b is-blank e))
 
   module _ (word-there : b ≡ false) (w : List ℕ) (n : ℕ) (number : n ≡ numberOf 10 w) (first : w ≡ firstWord rest) where
     abbrev m·named : Meaning
-    m·named = call (Doc.Call.command code (numberOf 10 (firstWord rest)))
+    m·named = call (Doc.direct (Doc.Plain.command code (numberOf 10 (firstWord rest))))
 
     named-on : namedMeaning code (wordsOf rest) ≡ small (firstWord rest) (atEnd m·named (wordsOf (afterWord rest)))
     unfolding namedMeaning
@@ -151,11 +152,11 @@ module _ (code : ℕ) (rest : List ℕ) (b : Bool) (is-blank : b ≡ isBlank res
       pub named-more : r ≡ false → namedMeaning code (wordsOf rest) ≡ unknown Ex.End
       named-more e = named-last ∙ goes-on after r is m·named e
 
-      pub named-is : r ≡ true → namedMeaning code (wordsOf rest) ≡ call (Doc.Call.command code n)
-      named-is e = named-last ∙ ends after r is m·named e ∙ ap (λ k. call (Doc.Call.command code k)) (sym number-is)
+      pub named-is : r ≡ true → namedMeaning code (wordsOf rest) ≡ call (Doc.direct (Doc.Plain.command code n))
+      named-is e = named-last ∙ ends after r is m·named e ∙ ap (λ k. call (Doc.direct (Doc.Plain.command code k))) (sym number-is)
 
 -- a cause
-module _ (f : Cause → Doc.Call) (rest w after : List ℕ) (first : w ≡ firstWord rest) (others : after ≡ afterWord rest) (r : Bool)
+module _ (f : Cause → Doc.Plain) (rest w after : List ℕ) (first : w ≡ firstWord rest) (others : after ≡ afterWord rest) (r : Bool)
     (is : r ≡ isBlank after) where
   fault-on : faultMeaning f (wordsOf rest) ≡ atEnd (causeMeaning f w) (wordsOf after)
   unfolding faultMeaning
@@ -169,26 +170,26 @@ module _ (f : Cause → Doc.Call) (rest w after : List ℕ) (first : w ≡ first
     fault-last : faultMeaning f (wordsOf rest) ≡ causeMeaning f w
     fault-last = fault-on ∙ ends after r is (causeMeaning f w) e
 
-    pub fault-internal : isWord w (ascii "internal") ≡ true → faultMeaning f (wordsOf rest) ≡ call (f Internal)
+    pub fault-internal : isWord w (ascii "internal") ≡ true → faultMeaning f (wordsOf rest) ≡ call (Doc.direct (f Internal))
     unfolding causeMeaning
-    fault-internal i = fault-last ∙ yes (isWord w (ascii "internal")) (call (f Internal))
-        (cond (isWord w (ascii "communication")) (call (f Lost)) (unknown Ex.Cause)) i
+    fault-internal i = fault-last ∙ yes (isWord w (ascii "internal")) (call (Doc.direct (f Internal)))
+        (cond (isWord w (ascii "communication")) (call (Doc.direct (f Lost))) (unknown Ex.Cause)) i
 
     module _ (i : isWord w (ascii "internal") ≡ false) where
-      fault-other : faultMeaning f (wordsOf rest) ≡ cond (isWord w (ascii "communication")) (call (f Lost)) (unknown Ex.Cause)
+      fault-other : faultMeaning f (wordsOf rest) ≡ cond (isWord w (ascii "communication")) (call (Doc.direct (f Lost))) (unknown Ex.Cause)
       unfolding causeMeaning
-      fault-other = fault-last ∙ no (isWord w (ascii "internal")) (call (f Internal))
-          (cond (isWord w (ascii "communication")) (call (f Lost)) (unknown Ex.Cause)) i
+      fault-other = fault-last ∙ no (isWord w (ascii "internal")) (call (Doc.direct (f Internal)))
+          (cond (isWord w (ascii "communication")) (call (Doc.direct (f Lost))) (unknown Ex.Cause)) i
 
-      pub fault-lost : isWord w (ascii "communication") ≡ true → faultMeaning f (wordsOf rest) ≡ call (f Lost)
-      fault-lost j = fault-other ∙ yes (isWord w (ascii "communication")) (call (f Lost)) (unknown Ex.Cause) j
+      pub fault-lost : isWord w (ascii "communication") ≡ true → faultMeaning f (wordsOf rest) ≡ call (Doc.direct (f Lost))
+      fault-lost j = fault-other ∙ yes (isWord w (ascii "communication")) (call (Doc.direct (f Lost))) (unknown Ex.Cause) j
 
       pub fault-none : isWord w (ascii "communication") ≡ false → faultMeaning f (wordsOf rest) ≡ unknown Ex.Cause
-      fault-none j = fault-other ∙ no (isWord w (ascii "communication")) (call (f Lost)) (unknown Ex.Cause) j
+      fault-none j = fault-other ∙ no (isWord w (ascii "communication")) (call (Doc.direct (f Lost))) (unknown Ex.Cause) j
 
 -- a drive alone, or with its buffers
 module _ (rest : List ℕ) (b : Bool) (is : b ≡ isBlank rest) where
-  pub drive-alone : b ≡ true → driveMeaning (wordsOf rest) ≡ call (Doc.Call.drive (replicate 16 0) (replicate 8 (pos 0)))
+  pub drive-alone : b ≡ true → driveMeaning (wordsOf rest) ≡ call (Doc.direct (Doc.Plain.drive (replicate 16 0) (replicate 8 (pos 0))))
   unfolding driveMeaning
   drive-alone e = ap driveMeaning (words-none rest (blank rest b is e))
 

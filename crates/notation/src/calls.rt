@@ -1,5 +1,6 @@
 // A line as a call.
 use crate::Call;
+use crate::messages::message_call;
 use check::same;
 use profile::Cause;
 use words::Expected;
@@ -29,7 +30,7 @@ ghost use Rattle.notation.specs.Meanings.Meaning.{call};
 ghost use Rattle.notation.specs.Meanings.{meaningOf, plainMeaning, namedCommand, createMeaning, commandMeaning, namedMeaning};
 ghost use Rattle.notation.specs.Meanings.{faultMeaning, accessMeaning, subIndexOf, writeMeaning, sampleMeaning, driveMeaning};
 
-// The buffers are lent filled with zeros: a sample or a drive without them gets the first of those.
+// The buffers are lent filled with zeros: a sample, a drive or a transmit without them gets the first of those.
 pub fn understand(
     line: &[u8],
     payload: &mut [u8; 512],
@@ -52,6 +53,12 @@ pub fn understand(
     }
     if same(word, b"drive") {
         return drive(rest, bytes, numbers);
+    }
+    if same(word, b"receive") {
+        return message_call(rest, true, bytes);
+    }
+    if same(word, b"transmit") {
+        return message_call(rest, false, bytes);
     }
     plain_call(word, rest, payload)
 }
@@ -146,7 +153,7 @@ fn command_to(code: u8, rest: &[u8]) -> Call
 }
 
 fn fault(rest: &[u8], raised: bool) -> Call
-    ensures { λ r. ⌜ SaysPlain (faultMeaning (cond raised Doc.Call.raise Doc.Call.clear) (wordsOf (now (rest .entry)))) r ⌝ }
+    ensures { λ r. ⌜ SaysPlain (faultMeaning (cond raised Doc.Plain.raise Doc.Plain.clear) (wordsOf (now (rest .entry)))) r ⌝ }
 {
     let word = first_word(rest);
     if !is_blank(after_word(rest)) {
@@ -162,7 +169,7 @@ fn fault(rest: &[u8], raised: bool) -> Call
 }
 
 fn change(raised: bool, cause: Cause) -> Call
-    ensures { λ r. ⌜ SaysPlain (call (cond raised Doc.Call.raise Doc.Call.clear cause)) r ⌝ }
+    ensures { λ r. ⌜ SaysPlain (call (Doc.direct (cond raised Doc.Plain.raise Doc.Plain.clear cause))) r ⌝ }
 {
     if raised {
         return Call::Raise(cause);

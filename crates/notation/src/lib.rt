@@ -1,9 +1,12 @@
 // The notation of a list of calls: a line as a call.
 use profile::Cause;
+use profile::Message;
 use words::Expected;
 
 // A line as a call.
 pub mod calls;
+// A receive or a transmit, by the words after it.
+mod messages;
 
 // What a line says. Its data stand in the buffers lent to the reader.
 pub enum Call {
@@ -25,4 +28,8 @@ pub enum Call {
     Clear(Cause),
     // Counts of bytes and of numbers.
     Drive(usize, usize),
+    // Count of the frame's bytes.
+    Receive(Message, usize),
+    // Count of the bytes of the frame as it is lent.
+    Transmit(Message, usize),
 }

@@ -6,4 +6,4 @@ use Rattle.objects.specs.declared.ReadNumber.{ReadNumber}
 
 -- what a read answers
 abbrev pub readNumber : ReadNumber → Reply
-readNumber r = record { number = r .number; value = r .value; size = r .size; events = 0; bytes = []; numbers = [] }
+readNumber r = record { number = r .number; value = r .value; size = r .size; events = 0; count = 0; bytes = []; numbers = [] }

@@ -19,6 +19,7 @@ use lines::machines;
 use nodes::in_fault;
 use nodes::is_stopped;
 use nodes::written;
+use profile::Entry;
 use profile::Home;
 use store::lend;
 use store::lend_settings;
@@ -26,11 +27,13 @@ use store::node_at;
 use store::set_node;
 use windows::Words;
 ghost use mathlib.Core.Path.{_≡_};
+ghost use mathlib.Core.List.{_++_};
 ghost use lib.ListN.{length};
-ghost use Rattle.profile.specs.Calls.{Call};
+ghost use Rattle.profile.specs.Refusals.{first, valueChecks};
+ghost use Rattle.profile.specs.Calls.{Plain, direct};
 ghost use Rattle.profile.specs.Replies.{readValue, plain};
 ghost use Rattle.store.specs.View.{held, partsOf, machinesOf, Sized};
-ghost use Rattle.store.specs.Promises.{Ensured, Stepped, wrote, Readable, Writable, SourcesRead};
+ghost use Rattle.store.specs.Promises.{Ensured, Stepped, wrote, Readable, Writable, SourcesRead, heldBy};
 ghost use Rattle.objects.specs.View.{readNumber};
 
 // What a read in place answers.
@@ -55,7 +58,7 @@ pub fn read(
     ensures { λ r. ⌜ Ensured
         (held (now (octets .entry)) (now (flags .entry)) (now (words .entry)) (now (limits .entry)) (now (deltas .entry))
         (now (values .entry)))
-        (Call.read index sub) (readNumber r)
+        (direct (Plain.read index sub)) (readNumber r)
         (held (now (octets .exit)) (now (flags .entry)) (now (words .entry)) (now (limits .entry)) (now (deltas .entry))
         (now (values .entry))) ⌝ }
 {
@@ -111,6 +114,7 @@ fn value_at(
             let was = node_at(octets, flags);
             nodes::read(was, index)
         }
+        Home::MappingEntry(m, sub) => mappings::read(deltas, m, sub),
     }
 }
 
@@ -138,7 +142,7 @@ pub fn write(
     ensures { λ r. ⌜ Ensured
         (held (now (octets .entry)) (now (flags .entry)) (now (words .entry)) (now (limits .entry)) (now (deltas .entry))
         (now (values .entry)))
-        (Call.write index sub (now (bytes .entry))) (plain r)
+        (direct (Plain.write index sub (now (bytes .entry)))) (plain r)
         (held (now (octets .exit)) (now (flags .exit)) (now (words .exit)) (now (limits .exit)) (now (deltas .exit))
         (now (values .exit))) ⌝ }
 {
@@ -151,12 +155,28 @@ pub fn write(
         return refused;
     }
     let value = number(bytes);
-    let forbidden = value_refusal(entry, value);
+    let forbidden = written_refusal(deltas, entry, value);
     if forbidden != 0 {
         return forbidden;
     }
     let home = entry.home;
     after_write(octets, flags, words, limits, deltas, values, home, value);
+    0
+}
+
+// A write's rows on its value: of any entry, then of a mapping.
+fn written_refusal(deltas: &Deltas, entry: Entry, value: u32) -> u32
+    requires { ⌜ Readable (entry .home) ⌝ }
+    ensures { λ r. ⌜ r ≡ first (valueChecks entry value ++ heldBy (now (deltas .entry)) (entry .home) value) ⌝ }
+{
+    let general = value_refusal(entry, value);
+    if general != 0 {
+        return general;
+    }
+    let home = entry.home;
+    if let Home::MappingEntry(m, sub) = home {
+        return mappings::refusal(deltas, m, sub, value);
+    }
     0
 }
 
@@ -198,5 +218,6 @@ fn after_write(
             let next = written(was, index, value);
             set_node(octets, flags, next);
         }
+        Home::MappingEntry(m, sub) => mappings::write(deltas, m, sub, value),
     }
 }

@@ -7,7 +7,7 @@ use Prim.Native.Nat.{ℕ, _+_, _%_, _^_, _≤_}
 use lib.Dec.{eqb, ltb}
 use lib.ListN.{length, take, drop, set}
 use lib.Seq.{sets}
-use Rattle.profile.specs.Replies.{freshMachines}
+use Rattle.profile.specs.Heard.{freshMachines}
 use Rattle.profile.specs.Outcome.{Same}
 use Rattle.device.specs.declared.Device.{Device}
 use Rattle.device.specs.View.{machinesOf}

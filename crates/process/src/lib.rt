@@ -13,7 +13,7 @@ use store::lend;
 use store::node_at;
 use windows::Row;
 use windows::Words;
-ghost use Rattle.profile.specs.Calls.{Call};
+ghost use Rattle.profile.specs.Calls.{Plain, direct};
 ghost use Rattle.store.specs.View.{held};
 ghost use Rattle.store.specs.Promises.{Ensured, EnsuredOf};
 ghost use Rattle.process.specs.View.{sampleNumber, driveNumber};
@@ -41,7 +41,7 @@ pub fn sample(
     ensures { λ r. ⌜ Ensured
         (held (now (octets .entry)) (now (flags .entry)) (now (words .entry)) (now (limits .entry)) (now (deltas .entry))
         (now (values .entry)))
-        (Call.sample (now (digital .entry)) (now (analogue .entry)) (now (events .entry))) (sampleNumber r (now (events .exit)))
+        (direct (Plain.sample (now (digital .entry)) (now (analogue .entry)) (now (events .entry)))) (sampleNumber r (now (events .exit)))
         (held (now (octets .exit)) (now (flags .entry)) (now (words .exit)) (now (limits .entry)) (now (deltas .entry))
         (now (values .exit))) ⌝ }
 {
@@ -67,7 +67,7 @@ pub fn sample(
 
 pub fn drive(words: &Words, values: &Values, lines: &mut [u8], channels: &mut [i16]) -> u32
     ensures { λ r. ⌜ EnsuredOf (now (words .entry)) (now (values .entry))
-        (Call.drive (now (lines .entry)) (now (channels .entry))) (driveNumber r (now (lines .exit)) (now (channels .exit))) ⌝ }
+        (direct (Plain.drive (now (lines .entry)) (now (channels .entry)))) (driveNumber r (now (lines .exit)) (now (channels .exit))) ⌝ }
 {
     let refused = drive_refusal(lines.len(), channels.len());
     if refused == 0 {

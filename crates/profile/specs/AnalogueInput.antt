@@ -13,6 +13,7 @@ use Rattle.profile.specs.declared.AnalogueInput.{AnalogueInput}
 use Rattle.profile.specs.Bits.{bitAt}
 use Rattle.profile.specs.Nodes.{operational}
 use Rattle.profile.specs.Entries.{atInputChannel}
+use Rattle.profile.specs.MappedEntries.{emptyMapping}
 use Rattle.profile.specs.Calls.{onSample}
 use Rattle.profile.specs.Rules.{Rules, put}
 
@@ -124,5 +125,7 @@ analogueInputs =
       joined = λ c i n o. onSample o
           (λ digital analogue. sampleChannel (channelEvent n (getD analogue i (pos 0)) o) (getD analogue i (pos 0)) o) c;
       cleared = clearSource;
+      emptied = λ o. o;
       moved = λ before after o. o;
+      holds = λ o. emptyMapping;
     }

@@ -10,6 +10,7 @@ use Rattle.profile.specs.declared.AnalogueOutput.{AnalogueOutput}
 use Rattle.profile.specs.Bits.{bit}
 use Rattle.profile.specs.Nodes.{fault}
 use Rattle.profile.specs.Entries.{atOutputChannel}
+use Rattle.profile.specs.MappedEntries.{emptyMapping}
 use Rattle.profile.specs.Rules.{Rules, put}
 use Rattle.profile.specs.Outputs.{following, faultMoves}
 
@@ -54,5 +55,7 @@ analogueOutputs =
       joins = λ c i. false;
       joined = λ c i n o. o;
       cleared = λ o. o;
+      emptied = λ o. o;
       moved = moveAnalogueOutput;
+      holds = λ o. emptyMapping;
     }

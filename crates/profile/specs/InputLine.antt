@@ -10,6 +10,7 @@ use Rattle.profile.specs.Bits.{bitAt, flip}
 use Rattle.profile.specs.Bytes.{lineBit}
 use Rattle.profile.specs.Nodes.{operational}
 use Rattle.profile.specs.Entries.{inside, bitOf, atWindow}
+use Rattle.profile.specs.MappedEntries.{emptyMapping}
 use Rattle.profile.specs.Calls.{onSample}
 use Rattle.profile.specs.Rules.{Rules, put}
 
@@ -102,5 +103,7 @@ inputLines =
       joins = λ c i. onSample false (λ digital analogue. true) c;
       joined = λ c i n o. onSample o (λ digital analogue. sampleLine (lineBit digital i) o) c;
       cleared = λ o. o;
+      emptied = λ o. o;
       moved = λ before after o. o;
+      holds = λ o. emptyMapping;
     }

@@ -1,9 +1,10 @@
--- Document 01 as definitions, in its order.
+-- Documents 01 and 02 as definitions, in their order.
 -- Assumes nothing.
 pub mod Bits
 pub mod Bytes
 pub mod Nodes
 pub mod Entries
+pub mod MappedEntries
 pub mod Calls
 pub mod Refusals
 pub mod Rules
@@ -13,7 +14,9 @@ pub mod Outputs
 pub mod OutputLine
 pub mod AnalogueInput
 pub mod AnalogueOutput
+pub mod Mapping
 pub mod Machines
+pub mod Heard
 pub mod Replies
 pub mod Outcome
 pub mod Lists

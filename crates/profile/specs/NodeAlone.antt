@@ -9,14 +9,15 @@ use Rattle.profile.specs.Bits.{bit}
 use Rattle.profile.specs.Bytes.{littleEndian}
 use Rattle.profile.specs.Nodes.{withSettings, raiseNode, clearNode, commandNode}
 use Rattle.profile.specs.Entries.{homeOf, atDevice, readsSources}
-use Rattle.profile.specs.Calls.{Call, read, write, sample, command, raise, clear, drive}
+use Rattle.profile.specs.MappedEntries.{emptyMapping}
+use Rattle.profile.specs.Calls.{Plain, read, write, sample, command, raise, clear, drive}
 use Rattle.profile.specs.Rules.{Rules, put}
 
 -- "Device-wide for the machines are commands, causes, writes of 1029:1, 6005 and 6423, and reads of 6422:1"
 abbrev pub writesSetting : Home → Bool
 writesSetting e = atDevice false (λ index. not (eqb index 0x1001)) e
 
-unfoldable pub deviceWide : Call → Bool
+unfoldable pub deviceWide : Plain → Bool
 deviceWide (read index sub) = readsSources (homeOf index sub)
 deviceWide (write index sub payload) = writesSetting (homeOf index sub)
 deviceWide (sample digital analogue events) = false
@@ -32,7 +33,7 @@ writeNode e v n =
     (λ index. withSettings (put index 0x1029 v (n .behaviour)) (put index 0x6005 (eqb v 1) (n .digital))
     (put index 0x6423 (eqb v 1) (n .analogue)) n) e
 
-unfoldable pub nextNode : Call → Node → Node
+unfoldable pub nextNode : Plain → Node → Node
 nextNode (read index sub) n = n
 nextNode (write index sub payload) n = writeNode (homeOf index sub) (littleEndian payload) n
 nextNode (sample digital analogue events) n = n
@@ -60,5 +61,7 @@ nodesAlone =
       joins = λ c i. false;
       joined = λ c i n o. o;
       cleared = λ o. o;
+      emptied = λ o. o;
       moved = λ before after o. o;
+      holds = λ o. emptyMapping;
     }

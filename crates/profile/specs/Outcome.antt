@@ -3,18 +3,15 @@
 use mathlib.Core.Path.{_≡_}
 use Prim.Native.Nat.{ℕ, _<_}
 use Rattle.profile.specs.Calls.{Call, Reply}
-use Rattle.profile.specs.Machines.{Kind, count, step}
-use Rattle.profile.specs.Replies.{Machines, reply}
+use Rattle.profile.specs.Machines.{Kind, count}
+use Rattle.profile.specs.Heard.{Machines, stepAll}
+use Rattle.profile.specs.Replies.{reply}
 
 -- two families are the same at every machine of the device
 pub record Same (a b : Machines) : Type 0 where
   pub at : (k : Kind) (i : ℕ) → i < count k → a k i ≡ b k i
 
--- every machine takes its step
-abbrev pub stepAll : Call → Machines → Machines
-stepAll c ms k i = step k i c (ms k i)
-
--- the promise of one call: the machines afterwards are one step of those before, and the whole reply is what these answer
+-- the promise of one call: the machines afterwards are those before at what they hear of the call, and the whole reply is what these answer
 pub record Outcome (before : Machines) (c : Call) (r : Reply) (left : Machines) : Type 0 where
   pub machines : Same left (stepAll c before)
   pub replied : r ≡ reply before c

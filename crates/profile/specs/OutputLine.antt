@@ -8,6 +8,7 @@ use lib.ListN.{getD}
 use Rattle.profile.specs.Bits.{bitAt, flip}
 use Rattle.profile.specs.Nodes.{fault}
 use Rattle.profile.specs.Entries.{inside, bitOf, atWindow}
+use Rattle.profile.specs.MappedEntries.{emptyMapping}
 use Rattle.profile.specs.Rules.{Rules, put}
 use Rattle.profile.specs.Outputs.{following, faultMoves}
 
@@ -91,5 +92,7 @@ outputLines =
       joins = λ c i. false;
       joined = λ c i n o. o;
       cleared = λ o. o;
+      emptied = λ o. o;
       moved = moveOutputLine;
+      holds = λ o. emptyMapping;
     }

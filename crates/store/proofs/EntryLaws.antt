@@ -2,7 +2,7 @@
 -- Assumes nothing.
 use mathlib.Core.Path.{_≡_, refl, sym, ap, _∙_}
 use mathlib.Core.Bool.{Bool, true, false, cond, _||_, _&&_, true≢false}
-use mathlib.Core.List.{List}
+use mathlib.Core.List.{List, _++_}
 use Prim.Native.Nat.{ℕ, zero, suc, _+_, _*_, _/_, _^_, _≤_, _<_}
 use native.Mathlib.Nat.{lt-of-lt-of-le, pow-suc}
 use native.Mathlib.Omega.{arith}
@@ -12,11 +12,11 @@ use lib.Pow.{pow-mono, pow-add}
 use borrow.Author.Tests.{eqb-true, eqb-false, ltb-false}
 use Rattle.profile.specs.declared.Entry.{Entry}
 use Rattle.profile.specs.declared.Home.{Home}
-use Rattle.profile.specs.declared.Home.the-variants.{Constant, Window, InputChannel, OutputChannel, Sources, Device}
+use Rattle.profile.specs.declared.Home.the-variants.{Constant, Window, InputChannel, OutputChannel, Sources, Device, MappingEntry}
 use Rattle.profile.specs.Entries.{entryOf, homeOf, any, notAllowed}
-use Rattle.profile.specs.Refusals.{Conditions, first, accessChecks, valueChecks}
+use Rattle.profile.specs.Refusals.{Check, first, accessChecks, valueChecks}
 use Rattle.profile.proofs.EntryRanges.{WindowRange, InRange, in-range}
-use Rattle.profile.proofs.RefusalLaws.{AccessPassed, access-passed, ValuePassed, value-passed}
+use Rattle.profile.proofs.RefusalLaws.{AccessPassed, access-passed, ValuePassed, value-passed, value-sound, parts}
 use Rattle.windows.specs.Promises.{Covers}
 use Rattle.channels.specs.Numbers.{NumberOf}
 use Rattle.analogue_inputs.proofs.WriteLaws.{input-fits}
@@ -39,6 +39,7 @@ readable e (InputChannel index n) r = r .0
 readable e (OutputChannel index n) r = r .0
 readable e Sources r = tt
 readable e (Device index) r = tt
+readable e (MappingEntry m sub) r = (r .0, r .1)
 
 pub entry-readable : (index sub : ℕ) → Readable (homeOf index sub)
 entry-readable index sub = readable (entryOf index sub) (homeOf index sub) (in-range index sub)
@@ -60,6 +61,7 @@ entry-short e (OutputChannel index n) r p = rw (r .1)
     (either (eqb index 0x6411) 2 _ (omega arith) (either (eqb index 0x6443) 1 4 (omega arith) (omega arith)))
 entry-short e Sources r p = absurd (true≢false (sym r ∙ p))
 entry-short e (Device index) r p = rw r (omega arith)
+entry-short e (MappingEntry m sub) r p = rw (r .2) (either (eqb sub 0) 1 4 (omega arith) (omega arith))
 
 -- ---- the value of a window fits its width
 
@@ -95,7 +97,7 @@ at-most false low high v e a = refl
 
 -- ---- what the checks leave
 
-writable : (e : Entry) (h : Home) (v : ℕ) {has : Conditions} {bytes : List ℕ} → InRange e h → NumberOf bytes v → AccessPassed has e
+writable : (e : Entry) (h : Home) (v : ℕ) {stopped : Bool} {bytes : List ℕ} → InRange e h → NumberOf bytes v → AccessPassed stopped e
     (length bytes) → ValuePassed e v → Writable h v
 unfolding notAllowed
 writable e (Constant x) v r n a p = absurd (true≢false (sym r ∙ a .writable))
@@ -110,15 +112,19 @@ writable e (InputChannel index m) v r n a p = (r .0, input-fits n index (a .size
 writable e (OutputChannel index m) v r n a p = (r .0, output-writable n index e (a .size-is ∙ r .1) (r .2) (p .not-above) (p .not-below))
 writable e Sources v r n a p = absurd (true≢false (sym r ∙ a .writable))
 writable e (Device index) v r n a p = rw (a .size-is ∙ r) at (n .small)
+writable e (MappingEntry m sub) v r n a p = (r .0, r .1)
 
 -- from the sums of the two parts of the table, which the code has made
-module _ (has : Conditions) (index sub : ℕ) (bytes : List ℕ) (none : first (accessChecks has (entryOf index sub) (length bytes)) ≡ 0) where
-  passed : AccessPassed has (entryOf index sub) (length bytes)
-  passed = access-passed has (entryOf index sub) (length bytes) none
+module _ (stopped : Bool) (index sub : ℕ) (bytes : List ℕ)
+    (none : first (accessChecks stopped (entryOf index sub) (length bytes)) ≡ 0) where
+  passed : AccessPassed stopped (entryOf index sub) (length bytes)
+  passed = access-passed stopped (entryOf index sub) (length bytes) none
 
   pub data-short : length bytes ≤ 4
   data-short = rw (passed .size-is) (entry-short (entryOf index sub) (homeOf index sub) (in-range index sub) (passed .writable))
 
-  pub entry-writable : (v : ℕ) → NumberOf bytes v → first (valueChecks (entryOf index sub) v) ≡ 0 → Writable (homeOf index sub) v
-  entry-writable v n z = writable (entryOf index sub) (homeOf index sub) v (in-range index sub) n passed
-      (value-passed (entryOf index sub) v z)
+  pub entry-writable : (v : ℕ) (rows : List Check) → NumberOf bytes v → first (valueChecks (entryOf index sub) v ++ rows) ≡ 0
+      → Writable (homeOf index sub) v
+  entry-writable v rows n z =
+      writable (entryOf index sub) (homeOf index sub) v (in-range index sub) n passed
+      (value-passed (entryOf index sub) v (parts (valueChecks (entryOf index sub) v) rows (value-sound (entryOf index sub) v) z .0))

@@ -15,6 +15,8 @@ use Rattle.profile.specs.Bits.{bitAt}
 use Rattle.profile.specs.Calls.{Call, Reply}
 use Rattle.profile.specs.Outcome.{Outcome}
 use Rattle.channels.specs.View.{inputAt, outputAt, Outside}
+use Rattle.profile.proofs.ListLaws.{listFrom-cong}
+use Rattle.mappings.specs.View.{placeOf, mappingAt}
 use Rattle.channels.proofs.StoreLaws.{outside-none, outside-set, sources-kept, three-first, three-second, three-third}
 use Rattle.store.specs.View.{stateOf, stateNumber, nodeAt, nodeOctets, nodeFlags, Store, machinesOf, Normal}
 use Rattle.store.specs.Promises.{elsewhere, Ensured}
@@ -35,16 +37,17 @@ module _ (octets octets′ : List ℕ) (flags flags′ : List Bool) where
         analogue = f 3 (omega arith) t;
       }
 
-pub inputs-kept : (octets octets′ : List ℕ) (limits : List ℤ) (deltas : List ℕ) (values values′ : List ℤ)
-    → ((k : ℕ) → 3 ≤ k → getD octets′ k 0 ≡ getD octets k 0) → ((k : ℕ) → k < 32 → getD values′ k (pos 0) ≡ getD values k (pos 0))
-    → (i : ℕ) → i < 16 → inputAt octets′ limits deltas values′ i ≡ inputAt octets limits deltas values i
-inputs-kept octets octets′ limits deltas values values′ o v i h =
+pub inputs-kept : (octets octets′ : List ℕ) (limits : List ℤ) (deltas deltas′ : List ℕ) (values values′ : List ℤ)
+    → ((k : ℕ) → 3 ≤ k → getD octets′ k 0 ≡ getD octets k 0) → ((k : ℕ) → k < 48 → getD deltas′ k 0 ≡ getD deltas k 0)
+    → ((k : ℕ) → k < 32 → getD values′ k (pos 0) ≡ getD values k (pos 0))
+    → (i : ℕ) → i < 16 → inputAt octets′ limits deltas′ values′ i ≡ inputAt octets limits deltas values i
+inputs-kept octets octets′ limits deltas deltas′ values values′ o d v i h =
     λ t. record {
       upper = getD limits i (pos 0);
       lower = getD limits (16 + i) (pos 0);
-      delta = getD deltas i 0;
-      negative = getD deltas (16 + i) 0;
-      positive = getD deltas (32 + i) 0;
+      delta = d i (omega arith) t;
+      negative = d (16 + i) (omega arith) t;
+      positive = d (32 + i) (omega arith) t;
       last = v i (omega arith) t;
       reference = v (16 + i) (omega arith) t;
       selection = o (3 + i) (omega arith) t;
@@ -60,6 +63,15 @@ outputs-kept flags flags′ values values′ f v i h =
       error = v (32 + i) (omega arith) t;
       kept = v (40 + i) (omega arith) t;
       driven = v (48 + i) (omega arith) t;
+    }
+
+pub mappings-kept : (deltas deltas′ : List ℕ) → ((k : ℕ) → 48 ≤ k → getD deltas′ k 0 ≡ getD deltas k 0) → (i : ℕ) → i < 8
+    → mappingAt deltas′ i ≡ mappingAt deltas i
+mappings-kept deltas deltas′ d i h =
+    λ t. record {
+      count = d (placeOf i 0) (omega arith) t;
+      entries = listFrom-cong 8 0 (λ j. getD deltas′ (placeOf i (1 + j)) 0) (λ j. getD deltas (placeOf i (1 + j)) 0)
+          (λ j l. d (placeOf i (1 + j)) (omega arith)) t;
     }
 
 -- ---- the node stored

@@ -13,10 +13,12 @@ use Rattle.profile.specs.declared.State.the-variants.{PreOperational, Operation
 use Rattle.profile.specs.declared.Node.{Node}
 use Rattle.profile.specs.declared.AnalogueInput.{AnalogueInput}
 use Rattle.profile.specs.declared.AnalogueOutput.{AnalogueOutput}
-use Rattle.profile.specs.Machines.{Kind, nodeAlone, inputLine, outputLine, analogueInput, analogueOutput, Own}
-use Rattle.profile.specs.Replies.{Machines}
+use Rattle.profile.specs.MappedEntries.{Mapping}
+use Rattle.profile.specs.Machines.{Kind, nodeAlone, inputLine, outputLine, analogueInput, analogueOutput, mapping, Own}
+use Rattle.profile.specs.Heard.{Machines}
 use Rattle.lines.specs.View as line
 use Rattle.channels.specs.View.{inputAt, outputAt}
+use Rattle.mappings.specs.View.{mappingAt}
 
 -- ---- the node
 
@@ -56,6 +58,7 @@ pub record Parts : Type 0 where
   pub words : List ℕ
   pub inputs : ℕ → AnalogueInput
   pub outputs : ℕ → AnalogueOutput
+  pub mappings : ℕ → Mapping
 
 -- the own settings and state of machine i of a kind
 abbrev pub ownOf : Parts → (k : Kind) → ℕ → Own k
@@ -64,6 +67,7 @@ ownOf d inputLine i = line.inputAt (d .words) i
 ownOf d outputLine i = line.outputAt (d .words) i
 ownOf d analogueInput i = d .inputs i
 ownOf d analogueOutput i = d .outputs i
+ownOf d mapping i = d .mappings i
 
 -- each machine, with the node for its own
 abbrev pub machines : Parts → Machines
@@ -85,6 +89,7 @@ partsOf d =
       words = d .words;
       inputs = inputAt (d .octets) (d .limits) (d .deltas) (d .values);
       outputs = outputAt (d .flags) (d .values);
+      mappings = mappingAt (d .deltas);
     }
 
 -- each machine of the device
@@ -102,7 +107,7 @@ pub record Sized (d : Store) : Type 0 where
   pub flags : length (d .flags) ≡ 12
   pub words : length (d .words) ≡ 28
   pub limits : length (d .limits) ≡ 32
-  pub deltas : length (d .deltas) ≡ 48
+  pub deltas : length (d .deltas) ≡ 120
   pub values : length (d .values) ≡ 56
 
 -- the state's byte is the number of a state

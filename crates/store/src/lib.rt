@@ -1,5 +1,4 @@
 // The six arrays of a device: the node that they hold, and fresh arrays. What the calls in place promise of them is in specs/.
-use channels::fields::DELTAS;
 use channels::fields::Deltas;
 use channels::fields::FLAGS;
 use channels::fields::Flags;
@@ -11,7 +10,11 @@ use channels::fields::VALUES;
 use channels::fields::Values;
 use channels::fields::set_modes;
 use channels::fields::set_sources;
+use channels::fields::zero_deltas;
 use lines::machines;
+use mappings::MAPPINGS;
+use mappings::empty_received;
+use mappings::empty_transmitted;
 use nodes::fresh;
 use profile::Node;
 use profile::State;
@@ -119,7 +122,11 @@ pub fn set_fresh(
     set_node(octets, flags, node);
     set_modes(flags);
     machines::fresh(words);
+    // The deltas in three parts, each between others: as one they would be a call of memset.
+    lend_settings(limits, deltas);
+    zero_deltas(deltas, 0, MAPPINGS);
     *limits = [0; LIMITS];
-    *deltas = [0; DELTAS];
+    empty_received(deltas);
     *values = [0; VALUES];
+    empty_transmitted(deltas);
 }

@@ -1,8 +1,9 @@
 -- Text put into a buffer after other text.
 -- Assumes nothing.
-use mathlib.Core.Path.{_≡_, refl, sym, ap, _∙_}
+use mathlib.Core.Path.{_≡_, refl, sym, ap, subst, _∙_}
+use mathlib.Core.Bool.{Bool, true, false, cond}
 use mathlib.Core.List.{List, [], _∷_, _++_, append-assoc}
-use Prim.Native.Nat.{ℕ, suc, _+_, _-_, _≤_, _<_}
+use Prim.Native.Nat.{ℕ, suc, _+_, _≤_, _<_}
 use native.Mathlib.Nat.{add-zero, add-suc, suc-add}
 use native.Mathlib.Omega.{arith}
 use lib.ListN.{length, set, length-append, length-set}
@@ -49,3 +50,15 @@ module _ {t u a b c : List ℕ} {i j k : ℕ} where
 -- two pieces of text that were put as one
 pub put-two : {t a b c : List ℕ} {i j k : ℕ} (u v : List ℕ) → Put t a i b j → Put (u ++ v) b j c k → Put (t ++ u ++ v) a i c k
 put-two u v p q = rw append-assoc (put-then p q)
+
+module _ {a b : List ℕ} {i j : ℕ} where
+  -- a text that is equal
+  pub put-as : {t u : List ℕ} → u ≡ t → Put t a i b j → Put u a i b j
+  put-as e p = subst (λ (l : List ℕ). Put l a i b j) (sym e) p
+
+  -- a text by its test
+  pub put-yes : (s : Bool) (t u : List ℕ) → s ≡ true → Put t a i b j → Put (cond s t u) a i b j
+  put-yes s t u e p = subst (λ (x : Bool). Put (cond x t u) a i b j) (sym e) p
+
+  pub put-no : (s : Bool) (t u : List ℕ) → s ≡ false → Put u a i b j → Put (cond s t u) a i b j
+  put-no s t u e p = subst (λ (x : Bool). Put (cond x t u) a i b j) (sym e) p

@@ -30,4 +30,6 @@ pub enum Expected {
     Shorter,
     // An answer line before this line.
     Answer,
+    // From 1 to 4.
+    Message,
 }

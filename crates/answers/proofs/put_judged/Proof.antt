@@ -1,8 +1,10 @@
 -- `answers::put_judged` meets its contract.
 -- Assumes nothing.
+use mathlib.Core.Bool.{_&&_}
+use lib.Dec.{eqb}
 use Rattle.words.specs.Ascii.{ascii}
 use Rattle.answers.specs.Answers.{newline, judgedText}
-use Rattle.texts.proofs.PutLaws.{put-none, put-then, put-two}
+use Rattle.texts.proofs.PutLaws.{put-none, put-then, put-two, put-yes, put-no}
 use borrow.Author.Needs.{needs}
 use Rattle.answers.proofs.put_judged.Statement.{statement}
 use Rattle.answers.proofs.put_judged.Tie as tie
@@ -10,7 +12,8 @@ use Rattle.answers.proofs.put_judged.Tie as tie
 returns : tie.Need-returns
 unfolding judgedText
 returns c =
-    rw (c .if1 .taken) (put-none _ _)
+    let at-args = c .before .before in
+    put-yes (eqb (at-args .args .met) 0 && eqb (at-args .args .unmet) 0) _ _ (c .if1 .taken) (put-none _ _)
 
 put-decimal-requires : tie.Need-put-decimal-requires
 put-decimal-requires c κs = search needs
@@ -41,7 +44,8 @@ returns-2 c =
     let at-put-all = at-put-decimal2 .before .before .before .before in
     let at-put-decimal = at-put-all .before .before .before .before .before in
     let at-if1 = at-put-decimal .before .before in
-    rw (at-if1 .if1 .left)
+    let at-args = at-if1 .before .before in
+    put-no (eqb (at-args .args .met) 0 && eqb (at-args .args .unmet) 0) _ _ (at-if1 .if1 .left)
     (put-two (ascii " not") newline (put-then (put-then (at-put-decimal .put-decimal .ensures) (at-put-all .put-all .ensures))
     (at-put-decimal2 .put-decimal2 .ensures)) (at-put-all2 .put-all2 .ensures))
 

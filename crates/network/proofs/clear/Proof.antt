@@ -6,7 +6,7 @@ use borrow.Author.Needs.{needs}
 use Rattle.profile.specs.Nodes.{fault, clearNode}
 use Rattle.store.specs.View.{nodeOctets, nodeFlags, held, partsOf}
 use Rattle.store.proofs.KeepLaws.{taken}
-use Rattle.store.proofs.StepLaws.{entered}
+use Rattle.store.proofs.StepLaws.{entered, no-reset}
 use Rattle.store.proofs.OutcomeLaws.{clear-outcome}
 use Rattle.network.proofs.clear.Statement.{statement}
 use Rattle.network.proofs.clear.Tie as tie
@@ -59,7 +59,8 @@ returns c =
           let e = held (nodeOctets octets new) (nodeFlags flags new) (l .1 .0) limits deltas (l .1 .1 .0) in
           let s = entered octets flags (now (a .words)) limits deltas (now (a .values)) new (at-lend-arg2 .lend-arg2 .given .0)
           (at-lend-arg4 .lend-arg4 .given .0)
-          _ (at-cleared .cleared .ensures ∙ ap (clearNode (a .cause)) was) _ _ _ _ (at-in-fault .in-fault .ensures ∙ ap fault was)
+          _ (at-cleared .cleared .ensures ∙ ap (clearNode (a .cause)) was) _ _ _ _ _ _ (no-reset deltas)
+          (at-in-fault .in-fault .ensures ∙ ap fault was)
           (at-in-fault2 .in-fault2 .ensures)
           (rw (stored .1) at (c .follow-fault .ensures)) in
           taken d e _ _ refl refl (s .normal) (clear-outcome (partsOf d) (partsOf e) _ (s .machines));

@@ -13,7 +13,7 @@ use Rattle.profile.specs.Nodes.{fault, obeyNode}
 use Rattle.store.specs.View.{nodeOctets, nodeFlags, held, partsOf}
 use Rattle.store.specs.Promises.{FreshLeft}
 use Rattle.store.proofs.KeepLaws.{left-alone, taken}
-use Rattle.store.proofs.StepLaws.{entered}
+use Rattle.store.proofs.StepLaws.{entered, still-long, both-reset}
 use Rattle.store.proofs.OutcomeLaws.{refused-outcome, obeyed-outcome, reset-outcome, other-outcome}
 use Rattle.network.proofs.command.Statement.{statement}
 use Rattle.network.proofs.command.Tie as tie
@@ -84,8 +84,21 @@ returns-3 c =
 obeyed-requires : tie.Need-obeyed-requires
 obeyed-requires c κs = search needs
 
+reset-received-requires : tie.Need-reset-received-requires
+reset-received-requires c κs =
+    let past-at-lend-settings-arg4 = c .before .before .before .before .before .before .before .before .before .before in
+    let at-lend-settings-arg4 = past-at-lend-settings-arg4 .before in
+    at-lend-settings-arg4 .lend-settings-arg4 .given .0
+
 set-node-requires : tie.Need-set-node-requires
 set-node-requires c κs = search needs
+
+reset-transmitted-requires : tie.Need-reset-transmitted-requires
+reset-transmitted-requires c κs =
+    let at-reset-received = c .before .before .before .before in
+    let past-at-lend-settings-arg4 = at-reset-received .before .before .before .before .before .before .before .before .before .before in
+    let at-lend-settings-arg4 = past-at-lend-settings-arg4 .before .before in
+    still-long _ (at-reset-received .reset-received .ensures) (at-lend-settings-arg4 .lend-settings-arg4 .given .0)
 
 in-fault-requires : tie.Need-in-fault-requires
 in-fault-requires c κs = search needs
@@ -95,9 +108,9 @@ in-fault-requires-2 c κs = search needs
 
 follow-fault-requires : tie.Need-follow-fault-requires
 follow-fault-requires c κs =
-    let at-place = c .before .before .before .before .before .before .before .before .before .before .before in
-    let past-at-lend-arg8 = at-place in
-    let at-lend-arg8 = past-at-lend-arg8 .before .before .before .before .before .before .before .before .before .before .before .before in
+    let past-at-lend-arg8 = c .before .before .before .before .before .before .before .before .before .before in
+    let past-at-lend-arg82 = past-at-lend-arg8 .before .before .before .before .before .before .before .before .before .before in
+    let at-lend-arg8 = past-at-lend-arg82 .before .before .before .before .before .before .before in
     let at-lend-arg6 = at-lend-arg8 .before .before in
     (at-lend-arg6 .lend-arg6 .given .0, at-lend-arg8 .lend-arg8 .given .0)
 
@@ -106,15 +119,18 @@ unfolding refusal
 returns-4 c =
     let at-in-fault2 = c .before in
     let at-in-fault = at-in-fault2 .before in
-    let at-set-node = at-in-fault .before .before .before .before in
-    let at-obeyed = at-set-node .before .before .before in
+    let at-reset-transmitted = at-in-fault .before .before .before .before in
+    let at-set-node = at-reset-transmitted .before .before in
+    let at-reset-received = at-set-node .before .before .before in
+    let at-obeyed = at-reset-received .before .before in
     let at-if3 = at-obeyed .before in
     let at-if2 = at-if3 .before in
     let at-is-addressed = at-if2 .before in
     let at-node-at = at-is-addressed .before in
     let at-if1 = at-node-at .before .before .before in
     let at-command-refusal = at-if1 .before in
-    let at-lend-arg4 = at-command-refusal .before .before .before .before .before .before .before .before .before .before .before in
+    let past-at-lend-arg4 = at-command-refusal .before .before .before .before .before .before .before .before .before .before in
+    let at-lend-arg4 = past-at-lend-arg4 .before in
     let at-lend-arg2 = at-lend-arg4 .before .before in
     let at-args = at-lend-arg2 .before .before in
     let a = at-args .args in
@@ -126,14 +142,16 @@ returns-4 c =
     let values = now (a .values) in
     let new = at-obeyed .obeyed .result in
     let l = c .follow-fault .last in
+    let empty = at-reset-transmitted .reset-transmitted .last .0 in
     let was = at-node-at .node-at .ensures in
     let stored = at-set-node .set-node .ensures in
     let d = held octets flags words limits deltas values in
-    let e = held (nodeOctets octets new) (nodeFlags flags new) (l .1 .0) limits deltas (l .1 .1 .0) in
+    let e = held (nodeOctets octets new) (nodeFlags flags new) (l .1 .0) limits empty (l .1 .1 .0) in
     let here = rw was at (sym (at-is-addressed .is-addressed .ensures) ∙ not-false _ (at-if2 .if2 .left)) in
+    let reset = both-reset _ (at-reset-received .reset-received .ensures) (at-reset-transmitted .reset-transmitted .ensures) in
     let s = entered octets flags words limits deltas values new (at-lend-arg2 .lend-arg2 .given .0) (at-lend-arg4 .lend-arg4 .given .0)
-    _ (at-obeyed .obeyed .ensures ∙ ap (obeyNode (a .code)) was) _ _ _ _ (at-in-fault .in-fault .ensures ∙ ap fault was)
-    (at-in-fault2 .in-fault2 .ensures)
+    _ (at-obeyed .obeyed .ensures ∙ ap (obeyNode (a .code)) was) _ _ _ _ _ _ reset
+    (at-in-fault .in-fault .ensures ∙ ap fault was) (at-in-fault2 .in-fault2 .ensures)
     (rw (stored .1) at (c .follow-fault .ensures)) in
     rw (stored .0, stored .1)
     (taken d e _ _ refl (ap not here) (s .normal)
@@ -154,7 +172,9 @@ command-spec =
     set-fresh-requires
     returns-3
     obeyed-requires
+    reset-received-requires
     set-node-requires
+    reset-transmitted-requires
     in-fault-requires
     in-fault-requires-2
     follow-fault-requires

@@ -6,7 +6,7 @@ use denote.Ref.{now}
 use borrow.Author.Needs.{needs}
 use Rattle.profile.specs.declared.Home.{Home}
 use Rattle.store.specs.Promises.{Writable}
-use Rattle.store.proofs.StepLaws.{window-stepped, input-stepped, output-stepped, setting-stepped}
+use Rattle.store.proofs.StepLaws.{window-stepped, input-stepped, output-stepped, setting-stepped, mapping-stepped}
 use Rattle.objects.proofs.after_write.Statement.{statement}
 use Rattle.objects.proofs.after_write.Tie as tie
 
@@ -71,6 +71,15 @@ written-requires c κs =
 set-node-requires : tie.Need-set-node-requires
 set-node-requires c κs = search needs
 
+enum-known-home-5 : tie.Need-enum-known-home-5
+enum-known-home-5 c = search needs
+
+write-requires-2 : tie.Need-write-requires-2
+write-requires-2 c κs =
+    let at-home5 = c .before .before in
+    let at-pre = at-home5 .before .before .before .before .before in
+    (at-pre .pre .0 .deltas, writable _ (at-home5 .home5 .given .1) (at-pre .pre .1))
+
 returns : tie.Need-returns
 returns c =
     let at-pre = c .before .before .before .before .before in
@@ -129,6 +138,15 @@ returns-6 c =
     (at-written .written .result)
     (s .octets) (s .flags) (at-home4 .home4 .given .0 .0) (a .value) (rw (at-node-at .node-at .ensures) at (at-written .written .ensures)))
 
+returns-7 : tie.Need-returns-7
+returns-7 c =
+    let at-home5 = c .before .before .before in
+    let at-args = at-home5 .before .before .before .before .before in
+    let a = at-args .args in
+    rw (at-home5 .home5 .given .1)
+    (mapping-stepped (now (a .octets)) (now (a .flags)) (now (a .words)) (now (a .limits)) (now (a .deltas)) (now (a .values))
+    (c .write2 .last .0) _ _ _ (c .write2 .ensures))
+
 pub after-write-spec : {M : Type 1} → statement M
 after-write-spec =
     tie.close
@@ -147,9 +165,12 @@ after-write-spec =
     enum-known-home-4
     written-requires
     set-node-requires
+    enum-known-home-5
+    write-requires-2
     returns
     returns-2
     returns-3
     returns-4
     returns-5
-    returns-6)
+    returns-6
+    returns-7)

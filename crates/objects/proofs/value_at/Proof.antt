@@ -58,6 +58,15 @@ node-at-requires c κs = search needs
 read-requires-2 : tie.Need-read-requires-2
 read-requires-2 c κs = search needs
 
+enum-known-home-6 : tie.Need-enum-known-home-6
+enum-known-home-6 c = search needs
+
+read-requires-3 : tie.Need-read-requires-3
+read-requires-3 c κs =
+    let at-home6 = c .before in
+    let at-pre = at-home6 .before .before in
+    subst Readable (at-home6 .home6 .given .1) (at-pre .pre)
+
 returns : tie.Need-returns
 unfolding readValue
 returns c =
@@ -97,6 +106,12 @@ returns-6 c =
     let at-home5 = at-node-at .before .before in
     rw (at-home5 .home5 .given .1) (rw (at-node-at .node-at .ensures) at (c .read2 .ensures))
 
+returns-7 : tie.Need-returns-7
+unfolding readValue
+returns-7 c =
+    let at-home6 = c .before .before in
+    rw (at-home6 .home6 .given .1) (c .read3 .ensures)
+
 pub value-at-spec : {M : Type 1} → statement M
 value-at-spec =
     tie.close
@@ -115,9 +130,12 @@ value-at-spec =
     enum-known-home-5
     node-at-requires
     read-requires-2
+    enum-known-home-6
+    read-requires-3
     returns
     returns-2
     returns-3
     returns-4
     returns-5
-    returns-6)
+    returns-6
+    returns-7)

@@ -90,6 +90,7 @@ returns-2 c =
     let s : Sampling (partsOf d) (partsOf e) (now (a .digital)) (now (a .analogue)) _ _ = record {
       node = node-kept octets (l .0) flags flags (λ k h. met .octets-kept .low k (omega (arith, h))) (λ k h. refl);
       outputs = outputs-kept flags flags values (l .1 .1 .1 .0) (λ k h. refl) (λ k h. met .values-kept .high k h);
+      mappings = λ i h. refl;
       row = at-load .load .result;
       edges = at-sample .sample .result;
       reported = at-reported .reported .result;

@@ -1,10 +1,10 @@
 -- `tables::put_meaning` meets its contract: the entries are the table's words.
 -- Assumes nothing.
 use mathlib.Core.Path.{refl}
-use borrow.Author.Needs.{needs}
 use Rattle.words.specs.Ascii.{ascii}
 use Rattle.answers.specs.Answers.{refusals, refusalText}
 use Rattle.texts.proofs.TableLaws.{table-put}
+use borrow.Author.Needs.{needs}
 use Rattle.answers.proofs.tables.put_meaning.Statement.{statement}
 use Rattle.answers.proofs.tables.put_meaning.Tie as tie
 
@@ -35,6 +35,15 @@ cast-t14 c = search needs
 cast-t15 : tie.Need-cast-t15
 cast-t15 c = search needs
 
+cast-t16 : tie.Need-cast-t16
+cast-t16 c = search needs
+
+cast-t17 : tie.Need-cast-t17
+cast-t17 c = search needs
+
+cast-t18 : tie.Need-cast-t18
+cast-t18 c = search needs
+
 slice-aggregate-put-words : tie.Need-slice-aggregate-put-words
 slice-aggregate-put-words c = search needs
 
@@ -63,6 +72,9 @@ put-meaning-spec =
     cast-t13
     cast-t14
     cast-t15
+    cast-t16
+    cast-t17
+    cast-t18
     slice-aggregate-put-words
     put-words-requires
     same-length

@@ -3,7 +3,7 @@
 use mathlib.Core.Path.{refl, sym, _∙_}
 use Prim.Native.Nat.{_-_}
 use borrow.Author.Needs.{needs}
-use Rattle.profile.specs.Entries.{objects, objectOf}
+use Rattle.profile.specs.Entries.{otherObjects, mappingObjects, objectOf}
 use Rattle.dictionary.proofs.TableLaws.{missed}
 use Rattle.dictionary.proofs.entries.object.Statement.{statement}
 use Rattle.dictionary.proofs.entries.object.Tie as tie
@@ -59,8 +59,8 @@ setting-requires-11 c κs = search needs
 short-requires : tie.Need-short-requires
 short-requires c κs = search needs
 
-absent-requires : tie.Need-absent-requires
-absent-requires c κs = search needs
+mapping-object-requires : tie.Need-mapping-object-requires
+mapping-object-requires c κs = search needs
 
 returns : tie.Need-returns
 unfolding objectOf
@@ -128,9 +128,11 @@ returns-16 c = c .short .ensures ∙ rw (c .before .before .channel-of .ensures,
 
 returns-17 : tie.Need-returns-17
 unfolding objectOf
-returns-17 c = c .absent .ensures ∙ sym
-    (missed _ (c .before .before .before .args .sub) (objects (c .before .before .before .args .sub - 1))
-    (c .before .before .before .args .index) (c .before .match .rest))
+returns-17 c =
+    let at-args = c .before .before .before in
+    let sub = at-args .args .sub in
+    c .mapping-object .ensures
+    ∙ sym (missed _ sub (otherObjects (sub - 1)) (mappingObjects sub) (at-args .args .index) (c .before .match .rest))
 
 pub object-spec : {M : Type 1} → statement M
 object-spec =
@@ -153,7 +155,7 @@ object-spec =
     setting-requires-10
     setting-requires-11
     short-requires
-    absent-requires
+    mapping-object-requires
     returns
     returns-2
     returns-3

@@ -6,7 +6,6 @@ use Rattle.notation.proofs.MeaningLaws.{says-as}
 use Rattle.notation.proofs.AccessLaws.{access-call, access-byte, access-read, access-data, access-write}
 use borrow.Author.Tests.{not-true, not-false}
 use denote.Ref.{now}
-use Prim.Native.Nat.{_-_}
 use mathlib.Core.Path.{sym, _∙_}
 use borrow.Author.Needs.{needs}
 use Rattle.notation.proofs.calls.access.Statement.{statement}

@@ -3,7 +3,6 @@
 use Rattle.notation.proofs.MeaningLaws.{create-small, create-more, create-is}
 use borrow.Author.Tests.{not-true, not-false}
 use denote.Ref.{now}
-use Prim.Native.Nat.{_-_}
 use mathlib.Core.Path.{sym}
 use borrow.Author.Needs.{needs}
 use Rattle.notation.proofs.calls.create.Statement.{statement}

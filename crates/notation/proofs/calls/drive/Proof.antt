@@ -9,7 +9,7 @@ use native.Mathlib.Omega.{arith}
 use mathlib.Core.List.{List}
 use mathlib.Core.Path.{subst, sym, ap, _∙_}
 use lib.ListN.{take, replicate}
-use Prim.Native.Nat.{ℕ, _-_}
+use Prim.Native.Nat.{ℕ}
 use lib.IntN.{ℤ}
 use Rattle.profile.specs.Calls as Doc
 use Rattle.words.specs.Words.{wordsOf}
@@ -25,8 +25,8 @@ is-blank-requires c κs = search needs
 returns : tie.Need-returns
 returns c = λ payload events. record {
   is = ap
-      (λ (l : List ℕ). call (Doc.Call.drive (take 16 l) (take 8 (now (c .before .before .before .args .numbers)))))
-      (c .before .before .before .pre .0) ∙ ap (λ (l : List ℤ). call (Doc.Call.drive (take 16 (replicate 64 0)) (take 8 l)))
+      (λ (l : List ℕ). call (Doc.direct (Doc.Plain.drive (take 16 l) (take 8 (now (c .before .before .before .args .numbers))))))
+      (c .before .before .before .pre .0) ∙ ap (λ (l : List ℤ). call (Doc.direct (Doc.Plain.drive (take 16 (replicate 64 0)) (take 8 l))))
       (c .before .before .before .pre .1) ∙ sym
       (drive-alone (now (c .before .before .before .args .rest)) (c .before .is-blank .result) (c .before .is-blank .ensures)
       (c .if1 .taken));

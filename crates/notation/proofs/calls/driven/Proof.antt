@@ -10,7 +10,6 @@ use mathlib.Core.Path.{subst, sym, ap}
 use lib.ListN.{take}
 use borrow.Author.Tests.{not-true, not-false}
 use denote.Ref.{now}
-use Prim.Native.Nat.{_-_}
 use borrow.Author.Needs.{needs}
 use Rattle.notation.proofs.calls.driven.Statement.{statement}
 use Rattle.notation.proofs.calls.driven.Tie as tie

@@ -7,7 +7,6 @@ use Rattle.notation.proofs.MeaningLaws.{says-as, fault-more, fault-inte
 use borrow.Author.Tests.{not-true, not-false}
 use mathlib.Core.Bool.{cond}
 use denote.Ref.{now}
-use Prim.Native.Nat.{_-_}
 use mathlib.Core.Path.{sym, _∙_}
 use borrow.Author.Needs.{needs}
 use Rattle.notation.proofs.calls.fault.Statement.{statement}
@@ -30,7 +29,7 @@ returns c =
     let at-args = at-first-word .before .before in
     λ payload bytes numbers events. record {
       is = sym
-          (fault-more (cond (at-args .args .raised) Doc.Call.raise Doc.Call.clear) (now (at-args .args .rest))
+          (fault-more (cond (at-args .args .raised) Doc.Plain.raise Doc.Plain.clear) (now (at-args .args .rest))
           (now (at-first-word .first-word .result)) (now (at-after-word .after-word .result)) (at-first-word .first-word .ensures)
           (at-after-word .after-word .ensures) (at-is-blank .is-blank .result) (at-is-blank .is-blank .ensures)
           (not-true (at-is-blank .is-blank .result) (c .if1 .taken)));
@@ -56,7 +55,7 @@ returns-2 c =
     let at-first-word = at-after-word .before in
     let at-args = at-first-word .before .before in
     λ payload bytes numbers events. says-as
-    (fault-internal (cond (at-args .args .raised) Doc.Call.raise Doc.Call.clear) (now (at-args .args .rest))
+    (fault-internal (cond (at-args .args .raised) Doc.Plain.raise Doc.Plain.clear) (now (at-args .args .rest))
     (now (at-first-word .first-word .result)) (now (at-after-word .after-word .result)) (at-first-word .first-word .ensures)
     (at-after-word .after-word .ensures) (at-is-blank .is-blank .result) (at-is-blank .is-blank .ensures)
     (not-false (at-is-blank .is-blank .result) (at-if1 .if1 .left))
@@ -84,7 +83,7 @@ returns-3 c =
     let at-first-word = at-after-word .before in
     let at-args = at-first-word .before .before in
     λ payload bytes numbers events. says-as
-    (fault-lost (cond (at-args .args .raised) Doc.Call.raise Doc.Call.clear) (now (at-args .args .rest))
+    (fault-lost (cond (at-args .args .raised) Doc.Plain.raise Doc.Plain.clear) (now (at-args .args .rest))
     (now (at-first-word .first-word .result)) (now (at-after-word .after-word .result)) (at-first-word .first-word .ensures)
     (at-after-word .after-word .ensures) (at-is-blank .is-blank .result) (at-is-blank .is-blank .ensures)
     (not-false (at-is-blank .is-blank .result) (at-if1 .if1 .left))
@@ -105,7 +104,7 @@ returns-4 c =
     let at-args = at-first-word .before .before in
     λ payload bytes numbers events. record {
       is = sym
-          (fault-none (cond (at-args .args .raised) Doc.Call.raise Doc.Call.clear) (now (at-args .args .rest))
+          (fault-none (cond (at-args .args .raised) Doc.Plain.raise Doc.Plain.clear) (now (at-args .args .rest))
           (now (at-first-word .first-word .result)) (now (at-after-word .after-word .result)) (at-first-word .first-word .ensures)
           (at-after-word .after-word .ensures) (at-is-blank .is-blank .result) (at-is-blank .is-blank .ensures)
           (not-false (at-is-blank .is-blank .result) (at-if1 .if1 .left))

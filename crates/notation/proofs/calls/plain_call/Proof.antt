@@ -6,7 +6,6 @@ use Rattle.notation.specs.Meanings.{plainMeaning}
 use Rattle.words.proofs.SplitLaws.{same-word}
 use Rattle.notation.proofs.MeaningLaws.{yes, no, says-as}
 use denote.Ref.{now}
-use Prim.Native.Nat.{_-_}
 use mathlib.Core.Path.{sym, _∙_}
 use borrow.Author.Needs.{needs}
 use Rattle.notation.proofs.calls.plain_call.Statement.{statement}

@@ -9,7 +9,7 @@ use native.Mathlib.Omega.{arith}
 use mathlib.Core.List.{List}
 use mathlib.Core.Path.{subst, sym, ap, _∙_}
 use lib.ListN.{take}
-use Prim.Native.Nat.{ℕ, _-_}
+use Prim.Native.Nat.{ℕ}
 use Rattle.words.specs.Words.{wordsOf}
 use denote.Ref.{now}
 use borrow.Author.Needs.{needs}

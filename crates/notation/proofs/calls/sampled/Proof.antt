@@ -10,7 +10,7 @@ use mathlib.Core.List.{List}
 use mathlib.Core.Path.{subst, sym, ap, _∙_}
 use lib.ListN.{take}
 use borrow.Author.Tests.{not-true, not-false}
-use Prim.Native.Nat.{ℕ, _-_}
+use Prim.Native.Nat.{ℕ}
 use Rattle.profile.specs.Calls as Doc
 use Rattle.words.specs.Words.{wordsOf}
 use Rattle.notation.specs.Meanings.Meaning.{call}
@@ -49,8 +49,8 @@ returns c =
     λ payload bytes.
     record {
       is = ap (λ (l : List ℕ). call
-          (Doc.Call.sample (take (at-args .args .digital) bytes)
-          (take (at-analogue .analogue .given .0 .0) (at-read-numbers .read-numbers .last .1 .0)) (take 16 l))) (at-args .pre .1) ∙ sym
+          (Doc.direct (Doc.Plain.sample (take (at-args .args .digital) bytes)
+          (take (at-analogue .analogue .given .0 .0) (at-read-numbers .read-numbers .last .1 .0)) (take 16 l)))) (at-args .pre .1) ∙ sym
           (ap (analogueMeaning (take (at-args .args .digital) bytes))
           (found-end _ _ _ (read-found numberItem (now (at-args .args .rest)) (at-read-numbers .read-numbers .last .1 .0) 64
           (omega (arith, at-read-numbers .read-numbers .kept .1 .0, at-read-numbers .before .read-numbers-arg .given .0))

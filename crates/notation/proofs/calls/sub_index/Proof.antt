@@ -2,7 +2,6 @@
 -- Assumes nothing.
 use Rattle.notation.proofs.AccessLaws.{sub-none, sub-some}
 use denote.Ref.{now}
-use Prim.Native.Nat.{_-_}
 use borrow.Author.Needs.{needs}
 use Rattle.notation.proofs.calls.sub_index.Statement.{statement}
 use Rattle.notation.proofs.calls.sub_index.Tie as tie

@@ -9,7 +9,6 @@ use native.Mathlib.Omega.{arith}
 use mathlib.Core.Path.{subst, sym, ap}
 use borrow.Author.Tests.{not-true, not-false}
 use denote.Ref.{now}
-use Prim.Native.Nat.{_-_}
 use borrow.Author.Needs.{needs}
 use Rattle.notation.proofs.calls.write.Statement.{statement}
 use Rattle.notation.proofs.calls.write.Tie as tie
