@@ -88,7 +88,8 @@ sub-write-each-2 t c =
     let at-if1 = at-moved .before .before in
     let at-args = at-if1 .before .before .before in
     let a = at-args .args in
-    rw (at-moved .moved .ensures) (first-fits (a .m) (now (a .entries)) (now (a .frame)) (some t at-if1) (at-args .pre .1))
+    let fits = first-fits (a .m) (now (a .entries)) (now (a .frame)) (some t at-if1) (at-args .pre .1) in
+    omega (arith, fits, at-moved .moved .ensures)
 
 part-write-each-start-2 : (t : ℕ) → lts.Need-part-write-each-start-2 (calls t) (given t) write-each.Post
 part-write-each-start-2 t c =
@@ -97,7 +98,8 @@ part-write-each-start-2 t c =
     let at-if1 = at-moved .before .before in
     let at-args = at-if1 .before .before .before in
     let a = at-args .args in
-    rw (at-moved .moved .ensures) (first-fits (a .m) (now (a .entries)) (now (a .frame)) (some t at-if1) (at-args .pre .1))
+    let fits = first-fits (a .m) (now (a .entries)) (now (a .frame)) (some t at-if1) (at-args .pre .1) in
+    omega (arith, fits, at-moved .moved .ensures)
 
 part-write-each-end-2 : (t : ℕ) → lts.Need-part-write-each-end-2 (calls t) (given t) write-each.Post
 part-write-each-end-2 t c = search needs
