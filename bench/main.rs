@@ -11,6 +11,8 @@ mod fast_entries;
 mod fast_kinds;
 #[path = "../compare/fast_mappings.rs"]
 mod fast_mappings;
+#[path = "../compare/fast_samples.rs"]
+mod fast_samples;
 #[path = "../compare/library.rs"]
 mod library;
 #[allow(dead_code)]
@@ -19,8 +21,13 @@ mod lists;
 #[path = "../compare/lists_entries.rs"]
 mod lists_entries;
 #[allow(dead_code)]
+#[path = "../compare/lists_filters.rs"]
+mod lists_filters;
+#[allow(dead_code)]
 #[path = "../compare/lists_mappings.rs"]
 mod lists_mappings;
+#[path = "../compare/lists_objects.rs"]
+mod lists_objects;
 #[path = "../compare/paper.rs"]
 mod paper;
 #[path = "../compare/paper_entries.rs"]
@@ -29,6 +36,8 @@ mod paper_entries;
 mod paper_machines;
 #[path = "../compare/paper_mappings.rs"]
 mod paper_mappings;
+#[path = "../compare/paper_node.rs"]
+mod paper_node;
 #[path = "../compare/paper_objects.rs"]
 mod paper_objects;
 mod rows;
@@ -58,9 +67,9 @@ fn one_call_create<M: Machine>(device: &mut M, number: u8) -> u32 {
     answer
 }
 
-fn prepared<M: Machine>() -> M {
+fn prepared<M: Machine>(row: &Row) -> M {
     let (_, mut device) = M::create(1);
-    for mut call in rows::set_up() {
+    for mut call in rows::set_up(row.filtered) {
         call.play(&mut device);
     }
     device
@@ -78,8 +87,8 @@ fn play<M: Machine>(device: &mut M, list: &mut [Call]) {
 }
 
 /// Nanoseconds for each call, over some repeats of the list.
-fn time<M: Machine>(list: &[Call]) -> f64 {
-    let mut device = prepared::<M>();
+fn time<M: Machine>(row: &Row, list: &[Call]) -> f64 {
+    let mut device = prepared::<M>(row);
     let mut own = list.to_vec();
     let start = Instant::now();
     for _ in 0..REPEATS {
@@ -89,10 +98,14 @@ fn time<M: Machine>(list: &[Call]) -> f64 {
 }
 
 /// The least of some rounds, the three implementations by turns.
-fn times(list: &[Call]) -> [f64; 3] {
+fn times(row: &Row, list: &[Call]) -> [f64; 3] {
     let mut least = [f64::MAX; 3];
     for _ in 0..ROUNDS {
-        let round = [time::<paper::Device>(list), time::<fast::Device>(list), time::<library::Device>(list)];
+        let round = [
+            time::<paper::Device>(row, list),
+            time::<fast::Device>(row, list),
+            time::<library::Device>(row, list),
+        ];
         for n in 0..3 {
             least[n] = least[n].min(round[n]);
         }
@@ -132,9 +145,9 @@ fn play_alone(name: &str, row: &str) {
     let row = ROWS.iter().find(|known| known.name == row).expect("a row of the table");
     let mut list = list_of(row);
     match name {
-        "paper" => play(&mut prepared::<paper::Device>(), &mut list),
-        "fast" => play(&mut prepared::<fast::Device>(), &mut list),
-        _ => play(&mut prepared::<library::Device>(), &mut list),
+        "paper" => play(&mut prepared::<paper::Device>(row), &mut list),
+        "fast" => play(&mut prepared::<fast::Device>(row), &mut list),
+        _ => play(&mut prepared::<library::Device>(row), &mut list),
     }
 }
 
@@ -166,13 +179,13 @@ fn main() {
     );
     let heads = ["paper", "fast", "library", "/paper", "/fast"];
     let head: String = heads.iter().map(|head| format!(" {head:>8}")).collect();
-    println!("{:20}|{:^45} |{:^45} |", "", "instructions a call", "nanoseconds a call");
-    println!("{:20}|{head} |{head} |", "");
+    println!("{:23}|{:^45} |{:^45} |", "", "instructions a call", "nanoseconds a call");
+    println!("{:23}|{head} |{head} |", "");
     for row in &ROWS {
         let list = list_of(row);
-        print!("{:20}|", row.name);
+        print!("{:23}|", row.name);
         print_cells(instructions(row, &list));
-        print_cells(Some(times(&list)));
+        print_cells(Some(times(row, &list)));
         println!();
     }
 }

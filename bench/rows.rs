@@ -6,36 +6,44 @@ use crate::lists::Random;
 pub struct Row {
     pub name: &'static str,
     pub calls: fn(&mut Random) -> Vec<Call>,
+    /// How many lines have their filter on, from line 1 up in sixteens.
+    pub filtered: u8,
 }
 
 pub const LENGTH: usize = 400;
+/// A fresh device's. Lines that change at this pace differ at every sample, and settle at each third.
+const FILTER_LENGTH: usize = 3;
 
-pub const ROWS: [Row; 17] = [
+pub const ROWS: [Row; 21] = [
     // An empty list stands for creates, which start from no device.
-    Row { name: "create", calls: |_| Vec::new() },
-    Row { name: "read lines", calls: read_lines },
-    Row { name: "read channels", calls: read_channels },
-    Row { name: "read 6422:1", calls: |_| vec![Call::Read { index: 0x6422, sub: 1 }; LENGTH] },
-    Row { name: "read refused", calls: |_| vec![Call::Read { index: 0x6500, sub: 1 }; LENGTH] },
-    Row { name: "write lines", calls: write_lines },
-    Row { name: "write channels", calls: write_channels },
-    Row { name: "sample, few change", calls: |random| samples(random, 2) },
-    Row { name: "sample, all change", calls: |random| samples(random, 128) },
-    Row { name: "command", calls: commands },
-    Row { name: "raise and clear", calls: |_| causes() },
-    Row { name: "drive", calls: |_| vec![drive(); LENGTH] },
-    Row { name: "receive, 8 entries", calls: |random| receives(random, Message::One) },
-    Row { name: "receive, one entry", calls: |random| receives(random, Message::Two) },
-    Row { name: "transmit, 8 entries", calls: |_| vec![transmit(Message::One); LENGTH] },
-    Row { name: "transmit, one entry", calls: |_| vec![transmit(Message::Two); LENGTH] },
-    Row { name: "mix", calls: mix },
+    Row { name: "create", calls: |_| Vec::new(), filtered: 16 },
+    Row { name: "read lines", calls: read_lines, filtered: 16 },
+    Row { name: "read channels", calls: read_channels, filtered: 16 },
+    Row { name: "read 6422:1", calls: |_| vec![Call::Read { index: 0x6422, sub: 1 }; LENGTH], filtered: 16 },
+    Row { name: "read refused", calls: |_| vec![Call::Read { index: 0x6500, sub: 1 }; LENGTH], filtered: 16 },
+    Row { name: "write lines", calls: write_lines, filtered: 16 },
+    Row { name: "write channels", calls: write_channels, filtered: 16 },
+    Row { name: "sample, few change", calls: |random| samples(random, 2, 1), filtered: 16 },
+    Row { name: "sample, all change", calls: |random| samples(random, 128, 1), filtered: 16 },
+    Row { name: "sample, few, no filter", calls: |random| samples(random, 2, 1), filtered: 0 },
+    Row { name: "sample, all, no filter", calls: |random| samples(random, 128, 1), filtered: 0 },
+    Row { name: "sample, few count", calls: |random| samples(random, 2, FILTER_LENGTH), filtered: 128 },
+    Row { name: "sample, all count", calls: |random| samples(random, 128, FILTER_LENGTH), filtered: 128 },
+    Row { name: "command", calls: commands, filtered: 16 },
+    Row { name: "raise and clear", calls: |_| causes(), filtered: 16 },
+    Row { name: "drive", calls: |_| vec![drive(); LENGTH], filtered: 16 },
+    Row { name: "receive, 8 entries", calls: |random| receives(random, Message::One), filtered: 16 },
+    Row { name: "receive, one entry", calls: |random| receives(random, Message::Two), filtered: 16 },
+    Row { name: "transmit, 8 entries", calls: |_| vec![transmit(Message::One); LENGTH], filtered: 16 },
+    Row { name: "transmit, one entry", calls: |_| vec![transmit(Message::Two); LENGTH], filtered: 16 },
+    Row { name: "mix", calls: mix, filtered: 16 },
 ];
 
-/// Operational, analogue events on, a filter on the first sixteen lines, a delta of 10; eight bytes mapped
-/// for message 1 and one for message 2, byte by byte, so that a full frame has as many entries as it can.
-pub fn set_up() -> Vec<Call> {
-    let mut calls =
-        vec![Call::Command { code: 1, node: 0 }, write(0x6423, 0, 1, 1), write(0x6103, 1, 0xFFFF, 2)];
+/// Operational, analogue events on, a filter on the first lines, a delta of 10; eight bytes mapped for
+/// message 1 and one for message 2, byte by byte, so that a full frame has as many entries as it can.
+pub fn set_up(filtered: u8) -> Vec<Call> {
+    let mut calls = vec![Call::Command { code: 1, node: 0 }, write(0x6423, 0, 1, 1)];
+    calls.extend((1..=filtered / 16).map(|sub| write(0x6103, sub, 0xFFFF, 2)));
     calls.extend((1..=16).map(|sub| write(0x6426, sub, 10, 4)));
     for (index, mapped) in [(0x1600, 0x6200), (0x1A00, 0x6000)] {
         calls.extend((1..=8).map(|sub| write(index, sub, mapped << 16 | u32::from(sub) << 8 | 8, 4)));
@@ -100,12 +108,13 @@ fn write_channels(random: &mut Random) -> Vec<Call> {
     (0..LENGTH).map(one).collect()
 }
 
-/// Of 128 lines and 16 channels `changes` lines, and one channel for each eight of them, change at each sample.
-fn samples(random: &mut Random, changes: usize) -> Vec<Call> {
+/// Of 128 lines and 16 channels `changes` lines change at every `pace`th sample, and one channel for each
+/// eight of them at each.
+fn samples(random: &mut Random, changes: usize, pace: usize) -> Vec<Call> {
     let mut lines = [0u8; 24];
     let mut channels = [0i16; 24];
-    let one = |_| {
-        for n in 0..changes {
+    let one = |at: usize| {
+        for n in (0..changes).filter(|_| at % pace == 0) {
             let line = if changes == 128 { n } else { random.below(128) };
             lines[line / 8] ^= 1 << (line % 8);
         }
@@ -155,7 +164,7 @@ fn transmit(message: Message) -> Call {
 
 /// A sample and a drive every tick, a write every tenth, a read every fourth.
 fn mix(random: &mut Random) -> Vec<Call> {
-    let samples = samples(random, 2);
+    let samples = samples(random, 2, 1);
     let writes = [write_lines(random), write_channels(random)];
     let reads = [read_lines(random), read_channels(random)];
     let mut calls = Vec::new();

@@ -14,6 +14,7 @@
 #define NODE 5
 #define STATES 5
 #define MESSAGES 4
+#define FILTER_LENGTH 5 /* where it does not matter */
 
 /* What a call takes, kept out of the stack that is measured. */
 static io401_device device;
@@ -127,14 +128,15 @@ static void map(uint16_t index, uint16_t mapped, const struct layout *layout)
 
 /*
  * Pre-operational, operational, in fault by either cause, stopped; with settings that make every input
- * report, and every mapping full.
+ * report, a filter of this length on lines 1 to 32, and every mapping full.
  */
-static void enter_state(int state)
+static void enter_state(int state, uint8_t length)
 {
     io401_create(&device, NODE);
     io401_write_value(&device, 0x6423, 0, 1, 1);
     io401_write_value(&device, 0x6200, 1, 0xFF, 1);
     io401_write_value(&device, 0x6123, 1, 0xFFFFFFFF, 4);
+    io401_write_value(&device, 0x2003, 0, length, 1);
     for (uint16_t message = 0; message < MESSAGES; message++) {
         map(0x1600 + message, LAYOUTS[message].receive, &LAYOUTS[message]);
         map(0x1A00 + message, LAYOUTS[message].transmit, &LAYOUTS[message]);
@@ -173,7 +175,16 @@ static void over_entries(size_t *worst, void (*call)(void))
     over_indices(worst, call, 0x1000, 0x102F);
     over_indices(worst, call, 0x1600, 0x1604);
     over_indices(worst, call, 0x1A00, 0x1A04);
+    over_indices(worst, call, 0x2000, 0x2004);
     over_indices(worst, call, 0x6000, 0x644F);
+}
+
+/* Every filter length, and 0. */
+static void over_lengths(size_t *worst, void (*call)(void))
+{
+    index_now = 0x2003;
+    for (sub_now = 0, size_now = 1, take_value(0); value_now < 256; take_value(value_now + 1))
+        grow(worst, call);
 }
 
 /* Counts, and entries that are mappable, of another length, and 0. */
@@ -219,15 +230,36 @@ static void over_frames(size_t *worst, void (*const calls[MESSAGES])(void))
     }
 }
 
-/* Every input at rest, then every input changed: all events. */
-static void over_samples(size_t *worst)
+/* So many samples in which every line shows the same bit, and every channel changes with each. */
+static void take_samples(size_t *worst, bool shown, unsigned times)
 {
-    for (int turn = 0; turn < 6; turn++) {
-        memset(digital, turn % 2 ? 0xFF : 0, sizeof digital);
+    memset(digital, shown ? 0xFF : 0, sizeof digital);
+    for (unsigned turn = 0; turn < times; turn++) {
         for (size_t n = 0; n < IO401_ANALOGUE_INPUTS; n++)
-            analogue[n] = turn % 2 ? 32767 : -32768;
+            analogue[n] = analogue[n] > 0 ? -32768 : 32767;
         grow(worst, call_sample);
         call_sample();
+    }
+}
+
+/*
+ * Every input at rest, then every input changed: all events. Lines under their filter count, go back to 0, count
+ * again and settle at the last sample, up and down. At the end a shorter length is written over their counts, which a
+ * stopped node refuses.
+ */
+static void over_samples(size_t *worst, int state)
+{
+    static const uint8_t LENGTHS[] = {1, 2, 3, 255};
+    for (size_t n = 0; n < sizeof LENGTHS; n++) {
+        enter_state(state, LENGTHS[n]);
+        for (int turn = 0; turn < 4; turn++) {
+            take_samples(worst, turn % 2 == 0, LENGTHS[n] - 1u);
+            take_samples(worst, turn % 2 == 1, 1);
+            take_samples(worst, turn % 2 == 0, LENGTHS[n]);
+        }
+        take_samples(worst, true, LENGTHS[n] - 1u);
+        io401_write_value(&device, 0x2003, 0, 1, 1);
+        take_samples(worst, true, 1);
     }
 }
 
@@ -256,7 +288,7 @@ static void over_causes(size_t *raises, size_t *clears)
 static void over_behaviours(size_t *raises, size_t *clears, int state)
 {
     for (uint32_t behaviour = 0; behaviour < 3; behaviour++) {
-        enter_state(state);
+        enter_state(state, FILTER_LENGTH);
         io401_write_value(&device, 0x1029, 1, behaviour, 1);
         over_causes(raises, clears);
     }
@@ -270,11 +302,13 @@ static const char *const NAMES[CALLS] = {"create", "read",  "write", "write_valu
 static void measure(size_t worst[CALLS])
 {
     for (int state = 0; state < STATES; state++) {
-        enter_state(state);
+        enter_state(state, FILTER_LENGTH);
         grow(&worst[CREATE], call_create);
         over_entries(&worst[READ], call_read);
         over_entries(&worst[WRITE], call_write);
         over_entries(&worst[WRITE_VALUE], call_write_value);
+        over_lengths(&worst[WRITE], call_write);
+        over_lengths(&worst[WRITE_VALUE], call_write_value);
         over_mappings(&worst[READ], call_read);
         over_mappings(&worst[WRITE], call_write);
         over_mappings(&worst[WRITE_VALUE], call_write_value);
@@ -282,7 +316,7 @@ static void measure(size_t worst[CALLS])
         over_frames(&worst[TRANSMIT], TRANSMITS);
         over_commands(&worst[COMMAND]);
         grow(&worst[DRIVE], call_drive);
-        over_samples(&worst[SAMPLE]);
+        over_samples(&worst[SAMPLE], state);
         over_behaviours(&worst[RAISE], &worst[CLEAR], state);
     }
 }

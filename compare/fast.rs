@@ -1,13 +1,14 @@
-//! Document 01 and Item 1 of document 02 for speed: rows of 128 bits, the device changed in place, an
-//! index found by one load, driven outputs computed when they are asked for.
+//! Document 01 and Items 1 and 2 of document 02 for speed: rows of 128 bits, the device changed in place,
+//! an index found by one load, driven outputs computed when they are asked for.
 
 use crate::calls::{Answer, Cause, Machine, Message};
 use crate::fast_entries::number_of;
 use crate::fast_kinds::*;
 use crate::fast_mappings::{Mapping, Part, FIRST_TRANSMIT, MAPPINGS};
+use crate::fast_samples::Counts;
 
 const PRE_OPERATIONAL: u8 = 0;
-const OPERATIONAL: u8 = 1;
+pub const OPERATIONAL: u8 = 1;
 const STOPPED: u8 = 2;
 
 const INTERNAL_FAILURE: u8 = 1;
@@ -19,23 +20,23 @@ pub type Row = [u64; 2];
 // The rows of the table, then what only the machines know.
 pub const INPUT: usize = 0;
 pub const INPUT_POLARITY: usize = 1;
-const INPUT_FILTER: usize = 2;
-const ANY_CHANGE: usize = 3;
-const LOW_TO_HIGH: usize = 4;
-const HIGH_TO_LOW: usize = 5;
+pub const INPUT_FILTER: usize = 2;
+pub const ANY_CHANGE: usize = 3;
+pub const LOW_TO_HIGH: usize = 4;
+pub const HIGH_TO_LOW: usize = 5;
 pub const OUTPUT: usize = 6;
 const OUTPUT_POLARITY: usize = 7;
 const ERROR_MODE: usize = 8;
 const ERROR_VALUE: usize = 9;
 pub const FILTER_MASK: usize = 10;
-const COUNT_ONE: usize = 11;
-const COUNT_TWO: usize = 12;
-const HELD: usize = 13;
-const ROWS: usize = 14;
+const HELD: usize = 11;
+const ROWS: usize = 12;
 
 #[derive(Clone)]
 pub struct Device {
     pub rows: [Row; ROWS],
+    /// Of the filters, for each word of a row.
+    pub counts: [Counts; 2],
     /// U, L, D, N, P by channel.
     pub limits: [[u32; 16]; 5],
     pub selections: [u8; 16],
@@ -52,6 +53,9 @@ pub struct Device {
     pub error_behaviour: u8,
     pub digital_interrupts: u8,
     pub analogue_interrupts: u8,
+    pub filter_length: u8,
+    /// The bits of the longest filter length so far; no count has more.
+    pub count_bits: u8,
     pub mappings: [Mapping; MAPPINGS],
 }
 
@@ -63,6 +67,7 @@ impl Device {
         rows[FILTER_MASK] = [u64::MAX; 2];
         Device {
             rows,
+            counts: [Counts::NONE; 2],
             limits: [[0; 16]; 5],
             selections: [7; 16],
             values: [0; 16],
@@ -78,6 +83,8 @@ impl Device {
             error_behaviour: 0,
             digital_interrupts: 1,
             analogue_interrupts: 0,
+            filter_length: 3,
+            count_bits: 2,
             mappings: [Mapping::EMPTY; MAPPINGS],
         }
     }
@@ -105,51 +112,6 @@ impl Device {
         if !before && self.in_fault() {
             self.hold();
         }
-    }
-
-    /// The digital events.
-    fn sample_lines(&mut self, samples: Row) -> Row {
-        let enabled = if self.state == OPERATIONAL && self.digital_interrupts == 1 { u64::MAX } else { 0 };
-        let mut events = [0; 2];
-        for w in 0..2 {
-            let settled = self.rows[INPUT][w];
-            let differs = samples[w] ^ settled;
-            let counting = differs & self.rows[INPUT_FILTER][w];
-            let (one, two) = (self.rows[COUNT_ONE][w], self.rows[COUNT_TWO][w]);
-            let changed = differs & (!self.rows[INPUT_FILTER][w] | two);
-            self.rows[COUNT_ONE][w] = counting & !one & !two;
-            self.rows[COUNT_TWO][w] = counting & one;
-            self.rows[INPUT][w] = settled ^ changed;
-            let reads = settled ^ changed ^ self.rows[INPUT_POLARITY][w];
-            let mask = (reads & self.rows[LOW_TO_HIGH][w]) | (!reads & self.rows[HIGH_TO_LOW][w]);
-            events[w] = changed & (self.rows[ANY_CHANGE][w] | mask) & enabled;
-        }
-        events
-    }
-
-    /// The analogue events.
-    fn sample_channels(&mut self, samples: &[i16; 16]) -> u16 {
-        let mut events = 0;
-        if self.state == OPERATIONAL && self.analogue_interrupts == 1 {
-            let [upper, lower, delta, negative, positive] = &self.limits;
-            for n in 0..16 {
-                let x = i32::from(samples[n]);
-                let moved = x != i32::from(self.values[n]);
-                let rise = x - i32::from(self.references[n]);
-                let distance = rise.unsigned_abs();
-                let met = u8::from((x > upper[n] as i32) & moved)
-                    | u8::from((x < lower[n] as i32) & moved) << 1
-                    | u8::from(distance > delta[n]) << 2
-                    | u8::from((distance > negative[n]) & (rise < 0)) << 3
-                    | u8::from((distance > positive[n]) & (rise > 0)) << 4;
-                let event = met & self.selections[n] != 0;
-                self.references[n] = if event { samples[n] } else { self.references[n] };
-                events |= u16::from(event) << n;
-            }
-        }
-        self.sources |= events;
-        self.values = *samples;
-        events
     }
 }
 

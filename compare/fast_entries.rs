@@ -39,6 +39,7 @@ impl Device {
             OUTPUT_ERROR => i32::from(self.errors[n]) as u32,
             DEVICE_TYPE => 0x000F_0191,
             ERROR_REGISTER => [0, 0x01, 0x11, 0x11][usize::from(self.causes)],
+            FILTER_LENGTH => u32::from(self.filter_length),
             _ => u32::from(self.error_behaviour),
         }
     }
@@ -69,6 +70,11 @@ impl Device {
                 Err(_) if (value as i32) > 0 => return 0x0609_0031,
                 Err(_) => return 0x0609_0032,
             },
+            FILTER_LENGTH if value == 0 => return 0x0609_0030,
+            FILTER_LENGTH => {
+                self.filter_length = value as u8;
+                self.count_bits = self.count_bits.max((32 - value.leading_zeros()) as u8);
+            }
             _ => self.error_behaviour = value as u8,
         }
         0

@@ -19,9 +19,10 @@ pub const OUTPUT_ERROR: u8 = 57;
 pub const DEVICE_TYPE: u8 = 58;
 pub const ERROR_REGISTER: u8 = 59;
 pub const ERROR_BEHAVIOUR: u8 = 60;
+pub const FILTER_LENGTH: u8 = 61;
 /// 1600 to 1603, then 1A00 to 1A03.
-pub const MAPPING: u8 = 61;
-const KINDS_ALL: usize = 69;
+pub const MAPPING: u8 = 62;
+const KINDS_ALL: usize = 70;
 
 pub const fn kinds() -> [u8; 0x445] {
     let indices: [[usize; 4]; 11] = [
@@ -102,6 +103,7 @@ pub fn kind(index: u16) -> u8 {
             0x1029 => ERROR_BEHAVIOUR,
             0x1600..=0x1603 => MAPPING + (index - 0x1600) as u8,
             0x1A00..=0x1A03 => MAPPING + 4 + (index - 0x1A00) as u8,
+            0x2003 => FILTER_LENGTH,
             _ => NONE,
         },
     }

@@ -5,9 +5,9 @@ use crate::calls::{Answer, Cause, Machine, Message};
 #[derive(Clone, Copy)]
 #[repr(C)]
 pub struct Device {
-    octets: [u8; 21],
+    octets: [u8; 22],
     flags: [bool; 12],
-    words: [u64; 28],
+    words: [u64; 40],
     limits: [i32; 32],
     deltas: [u32; 120],
     values: [i16; 56],
@@ -32,9 +32,9 @@ struct Transmit {
     count: usize,
 }
 
-type Octets = *mut [u8; 21];
+type Octets = *mut [u8; 22];
 type Flags = *mut [bool; 12];
-type Words = *mut [u64; 28];
+type Words = *mut [u64; 40];
 type Limits = *mut [i32; 32];
 type Deltas = *mut [u32; 120];
 type Values = *mut [i16; 56];
@@ -81,7 +81,7 @@ fn pair_and_place(message: Message) -> (bool, bool) {
 
 impl Machine for Device {
     fn create(number: u8) -> (u32, Device) {
-        let mut d = Device { octets: [0; 21], flags: [false; 12], words: [0; 28], limits: [0; 32], deltas: [0; 120], values: [0; 56] };
+        let mut d = Device { octets: [0; 22], flags: [false; 12], words: [0; 40], limits: [0; 32], deltas: [0; 120], values: [0; 56] };
         let refused = call!(io401_create_arrays, &mut d, number);
         (refused, d)
     }

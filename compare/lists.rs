@@ -2,7 +2,9 @@
 //! that most calls do something. The same seed makes the same list.
 
 use crate::calls::{Call, Cause, Lent};
-use crate::lists_mappings::{Plans, MAPPINGS};
+use crate::lists_filters::Run;
+use crate::lists_mappings::Plans;
+use crate::lists_objects::{objects, Object, DIGITAL_OBJECTS};
 
 /// SplitMix64.
 pub struct Random(u64);
@@ -34,54 +36,16 @@ impl Random {
     }
 }
 
-/// An object of the dictionary: index, last sub-index, size of an entry at 1 or above in bytes.
-#[derive(Clone, Copy)]
-pub struct Object {
-    pub index: u16,
-    pub last: u8,
-    pub size: usize,
-}
-
-/// How many digital objects stand first.
-pub const DIGITAL_OBJECTS: usize = 44;
-
-/// Every object of document 01, then the mappings.
-pub fn objects() -> Vec<Object> {
-    let mut all = Vec::new();
-    let one_bit = [0x6020, 0x6030, 0x6038, 0x6050, 0x6060, 0x6070, 0x6220, 0x6240, 0x6250, 0x6260, 0x6270];
-    let wider = [0x00, 0x02, 0x03, 0x06, 0x07, 0x08, 0x200, 0x202, 0x206, 0x207, 0x208];
-    for row in 0..11 {
-        all.push(Object { index: one_bit[row], last: 128, size: 1 });
-        all.push(Object { index: 0x6000 + wider[row], last: 16, size: 1 });
-        all.push(Object { index: 0x6100 + wider[row], last: 8, size: 2 });
-        all.push(Object { index: 0x6120 + wider[row], last: 4, size: 4 });
-    }
-    for (index, size) in
-        [(0x6401, 2), (0x6421, 1), (0x6424, 4), (0x6425, 4), (0x6426, 4), (0x6427, 4), (0x6428, 4)]
-    {
-        all.push(Object { index, last: 16, size });
-    }
-    for (index, size) in [(0x6411, 2), (0x6443, 1), (0x6444, 4)] {
-        all.push(Object { index, last: 8, size });
-    }
-    for (index, last, size) in
-        [(0x1000, 0, 4), (0x1001, 0, 1), (0x1029, 1, 1), (0x6005, 0, 1), (0x6422, 1, 4), (0x6423, 0, 1)]
-    {
-        all.push(Object { index, last, size });
-    }
-    all.extend(MAPPINGS.map(|index| Object { index, last: 8, size: 4 }));
-    all
-}
-
 /// What a list is drawn from; it remembers the lines and channels last sampled, so that few change.
 pub struct Source {
     pub random: Random,
     pub plans: Plans,
+    pub run: Run,
     pub objects: Vec<Object>,
     number: u8,
     /// Commands mostly start the node, so that mappings last; in other lists any command comes as often.
     steady: bool,
-    lines: [u8; 16],
+    pub lines: [u8; 16],
     channels: [i16; 16],
 }
 
@@ -90,8 +54,16 @@ impl Source {
         let mut random = Random::new(seed);
         let number = if random.chance(5) { random.next() as u8 } else { 1 + random.below(127) as u8 };
         let steady = random.chance(60);
-        let plans = Plans::new();
-        Source { random, plans, objects: objects(), number, steady, lines: [0; 16], channels: [0; 16] }
+        Source {
+            random,
+            plans: Plans::new(),
+            run: Run::none(),
+            objects: objects(),
+            number,
+            steady,
+            lines: [0; 16],
+            channels: [0; 16],
+        }
     }
 
     /// The argument of create.
@@ -104,14 +76,18 @@ impl Source {
         if self.something_is_planned() && self.random.chance(50) {
             return self.mapping_call();
         }
+        if self.run.is_on() && self.random.chance(85) {
+            return self.run_call();
+        }
         match self.random.below(100) {
             0..22 => self.write(),
             22..36 => self.read(),
-            36..58 => self.sample(),
-            58..63 => self.command(),
-            63..65 => Call::Raise(self.cause()),
-            65..68 => Call::Clear(self.cause()),
-            68..74 => self.drive(),
+            36..55 => self.sample(),
+            55..60 => self.command(),
+            60..62 => Call::Raise(self.cause()),
+            62..65 => Call::Clear(self.cause()),
+            65..71 => self.drive(),
+            71..74 if !self.run.is_on() => self.filter_call(),
             _ => self.mapping_call(),
         }
     }
@@ -143,7 +119,7 @@ impl Source {
         let at = match self.random.below(10) {
             0..5 => self.random.below(DIGITAL_OBJECTS),
             5..9 => DIGITAL_OBJECTS + self.random.below(10),
-            _ => DIGITAL_OBJECTS + 10 + self.random.below(6),
+            _ => DIGITAL_OBJECTS + 10 + self.random.below(7),
         };
         let mut object = self.objects[at];
         if self.random.chance(3) {
@@ -169,8 +145,6 @@ impl Source {
     pub fn write(&mut self) -> Call {
         let (object, sub) = self.entry();
         let value = self.value(object);
-        let mut data = self.bytes();
-        data[..4].copy_from_slice(&value.to_le_bytes());
         let length = if self.random.chance(94) {
             object.size
         } else if self.random.chance(80) {
@@ -178,7 +152,14 @@ impl Source {
         } else {
             self.random.below(25)
         };
-        Call::Write { index: object.index, sub, data: Lent::new(data, length) }
+        self.write_of(object.index, sub, value, length)
+    }
+
+    /// Beyond the value the data is anything.
+    pub fn write_of(&mut self, index: u16, sub: u8, value: u32, length: usize) -> Call {
+        let mut data = self.bytes();
+        data[..4].copy_from_slice(&value.to_le_bytes());
+        Call::Write { index, sub, data: Lent::new(data, length) }
     }
 
     fn value(&mut self, object: Object) -> u32 {
@@ -189,6 +170,7 @@ impl Source {
             0x1029 => self.random.pick(&[0, 0, 1, 1, 2, 2, 3]),
             0x6005 | 0x6423 => self.random.pick(&[1, 1, 1, 1, 1, 1, 0, 2]),
             0x6443 => self.random.pick(&[0, 0, 1, 1, 2]),
+            0x2003 => u32::from(self.filter_length()),
             0x6421 => {
                 let one = 1 << self.random.below(5);
                 let any = self.random.below(40) as u32;
@@ -224,10 +206,25 @@ impl Source {
         self.random.pick(&[bound, bound.wrapping_neg(), small, small.wrapping_neg(), half, any])
     }
 
+    pub fn turn_a_line(&mut self) {
+        let line = self.random.below(128);
+        self.lines[line / 8] ^= 1 << (line % 8);
+    }
+
+    /// Seldom a wrong one in a run, so that its counts get far.
+    fn buffer_lengths(&mut self) -> [usize; 3] {
+        if self.run.is_on() && self.random.chance(95) {
+            return [16; 3];
+        }
+        [self.length(16), self.length(16), self.length(16)]
+    }
+
     pub fn sample(&mut self) -> Call {
-        for _ in 0..self.random.pick(&[0, 0, 1, 2, 4, 200]) {
-            let line = self.random.below(128);
-            self.lines[line / 8] ^= 1 << (line % 8);
+        let lengths = self.buffer_lengths();
+        if self.run.is_on() {
+            self.run_lines(lengths == [16; 3]);
+        } else {
+            (0..self.random.pick(&[0, 0, 1, 2, 4, 200])).for_each(|_| self.turn_a_line());
         }
         for _ in 0..self.random.pick(&[0, 1, 2, 16]) {
             let channel = self.random.below(16);
@@ -242,9 +239,9 @@ impl Source {
         let mut analogue = self.numbers();
         analogue[..16].copy_from_slice(&self.channels);
         Call::Sample {
-            digital: Lent::new(digital, self.length(16)),
-            analogue: Lent::new(analogue, self.length(16)),
-            events: Lent::new(self.bytes(), self.length(16)),
+            digital: Lent::new(digital, lengths[0]),
+            analogue: Lent::new(analogue, lengths[1]),
+            events: Lent::new(self.bytes(), lengths[2]),
         }
     }
 
@@ -260,8 +257,12 @@ impl Source {
         };
         let any = self.random.next() as u8;
         let node = self.random.pick(&[0, 0, self.number, self.number, self.number, any & 127, any]);
-        if matches!(code, 129 | 130) && (node == 0 || node == self.number) {
+        let obeyed = node == 0 || node == self.number;
+        if obeyed && matches!(code, 129 | 130) {
             self.plans.forget();
+        }
+        if obeyed && code == 129 {
+            self.run = Run::none();
         }
         Call::Command { code, node }
     }

@@ -1,6 +1,7 @@
 //! Entries of a mapping, good and odd ones. A direction is 0 for receive and 1 for transmit.
 
-use crate::lists::{Object, Random, DIGITAL_OBJECTS};
+use crate::lists::Random;
+use crate::lists_objects::{Object, DIGITAL_OBJECTS};
 
 /// Index, last sub-index and bytes of what each direction takes.
 const MAPPABLE: [[(u16, u8, usize); 4]; 2] = [
@@ -38,6 +39,8 @@ fn entry_of_any_object(objects: &[Object], random: &mut Random) -> u32 {
 
 /// The 1-bit windows of the row that each direction takes.
 const ONE_BIT: [u16; 2] = [0x6220, 0x6020];
+/// Their value stands at sub-index 0.
+const DEVICE_WIDE: [u16; 3] = [0x2003, 0x6005, 0x6423];
 /// Dummies, gaps between the rows, a communication parameter.
 const NO_OBJECTS: [u16; 8] = [0x0001, 0x0002, 0x0005, 0x0007, 0x6201, 0x6400, 0x6412, 0x1400];
 /// Lengths at and beside those that some entry has.
@@ -51,7 +54,7 @@ pub fn odd_entry(direction: usize, objects: &[Object], random: &mut Random) -> u
     let bits = 8 * size as u8;
     let sub = 1 + random.below(usize::from(last)) as u8;
     let good = entry_value(index, sub, bits);
-    match random.below(24) {
+    match random.below(25) {
         0..3 => entry_value(index, random.pick(&[last + 1, last + 1, last + 2, 2 * last, 128, 255]), bits),
         3..5 => entry_value(index, 0, random.pick(&[8, bits])),
         5..8 => entry_value(index, sub, random.pick(&LENGTHS)),
@@ -63,6 +66,7 @@ pub fn odd_entry(direction: usize, objects: &[Object], random: &mut Random) -> u
         20 => good.swap_bytes(),
         21 => good.rotate_left(16),
         22 => good ^ 1 << random.below(32),
+        23 => entry_value(random.pick(&DEVICE_WIDE), random.pick(&[0, 0, 1, sub]), random.pick(&[8, 16])),
         _ => random.next() as u32,
     }
 }

@@ -62,13 +62,11 @@ impl Source {
     }
 
     fn mapping_entry_write(&mut self, mapping: usize, sub: u8, value: u32) -> Call {
-        let mut data = self.bytes();
-        data[..4].copy_from_slice(&value.to_le_bytes());
         let right = if sub == 0 { 1 } else { 4 };
         let length = if self.random.chance(2) { self.random.below(7) } else { right };
         let index =
             if self.random.chance(2) { self.index_near(MAPPINGS[mapping]) } else { MAPPINGS[mapping] };
-        Call::Write { index, sub, data: Lent::new(data, length) }
+        self.write_of(index, sub, value, length)
     }
 
     /// Count 0, the entries, the count, mostly start, then frames; each step is left out or spoiled at times.

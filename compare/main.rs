@@ -1,63 +1,35 @@
-//! Plays random lists on both implementations and on the static library, and compares every
-//! answer, every lent buffer, and from time to time every entry and every driven output.
+//! Plays random lists on both implementations and on the static library, and compares every answer, every
+//! lent buffer, and from time to time every entry, every driven output and about what each filter has counted.
 
 mod calls;
 mod fast;
 mod fast_entries;
 mod fast_kinds;
 mod fast_mappings;
+mod fast_samples;
 mod library;
 mod lists;
 mod lists_entries;
+mod lists_filters;
 mod lists_mappings;
+mod lists_objects;
 mod paper;
 mod paper_entries;
 mod paper_machines;
 mod paper_mappings;
+mod paper_node;
 mod paper_objects;
+mod read_back;
 
-use calls::{Answer, Call, Cause, Lent, Machine, Message};
-use lists::{Object, Random, Source};
+use calls::{Answer, Call, Lent, Machine};
+use lists::{Random, Source};
+use lists_objects::Object;
+use read_back::{read_back, Told};
 
 const CALLS_OF_A_LIST: u64 = 1000;
 
-/// Answers, and calls with the buffers as they were left.
-type Told = (Vec<Answer>, Vec<Call>);
-
-fn played<M: Machine>(mut call: Call, device: &mut M, told: &mut Told) {
-    told.0.push(call.play(device));
-    told.1.push(call);
-}
-
-/// What an implementation says of all its entries, outputs and mappings, without being changed by it: a
-/// copy is taken out of the stopped state, read, driven, and driven again with no cause present; then it
-/// is started, and each message is sent and obeyed.
-fn read_back<M: Machine>(device: &M, objects: &[Object]) -> Told {
-    let drive = Call::Drive { lines: Lent::new([0; 24], 16), channels: Lent::new([0; 24], 8) };
-    let mut told = (Vec::with_capacity(2000), Vec::new());
-    let mut copy = device.clone();
-    played(drive, &mut copy, &mut told);
-    copy.command(128, 0);
-    for object in objects {
-        for sub in 0..=object.last {
-            told.0.push(copy.read(object.index, sub));
-        }
-    }
-    played(drive, &mut copy, &mut told);
-    copy.clear(Cause::InternalFailure);
-    copy.clear(Cause::CommunicationLoss);
-    played(drive, &mut copy, &mut told);
-    copy.command(1, 0);
-    for message in Message::ALL {
-        let bytes = std::array::from_fn(|at| 0x5A ^ (at as u8) << 4 ^ message as u8);
-        played(Call::Transmit { message, frame: Lent::new(bytes, 8) }, &mut copy, &mut told);
-        played(Call::Receive { message, frame: Lent::new(bytes, 8) }, &mut copy, &mut told);
-        played(drive, &mut copy, &mut told);
-    }
-    told
-}
-
 /// An implementation beside the paper's, with the name it is blamed by.
+#[derive(Clone)]
 struct Beside<M> {
     name: &'static str,
     device: M,
@@ -95,6 +67,7 @@ impl<M: Machine> Beside<M> {
 }
 
 /// The paper's implementation and those beside it.
+#[derive(Clone)]
 struct All {
     paper: paper::Device,
     fast: Beside<fast::Device>,
@@ -209,22 +182,70 @@ fn sweep_entries(objects: &[Object]) -> u64 {
     calls
 }
 
+fn sample_of(lines: u128) -> Call {
+    let mut digital = [0; 24];
+    digital[..16].copy_from_slice(&lines.to_le_bytes());
+    let events = Lent::new([0xA5; 24], 16);
+    Call::Sample { digital: Lent::new(digital, 16), analogue: Lent::new([0; 24], 16), events }
+}
+
+/// Line 1 has differed so often under a length of 255, each line after it once more than the one before.
+fn counting(first: usize) -> All {
+    let mut devices = All::create(1);
+    devices.play(Call::Command { code: 1, node: 1 }, (0, 0));
+    for sub in 1..=4 {
+        devices.play(Call::Write { index: 0x6123, sub, data: Lent::new([0xFF; 24], 4) }, (0, 0));
+    }
+    devices.play(Call::Write { index: 0x2003, sub: 0, data: Lent::new([0xFF; 24], 1) }, (0, 0));
+    for later in (1..128).rev() {
+        devices.play(sample_of(u128::MAX << later), (0, 0));
+    }
+    for _ in 0..first {
+        devices.play(sample_of(u128::MAX), (0, 0));
+    }
+    devices
+}
+
+/// Writes every length over every count, and lets the lines differ until each has settled, also after they
+/// have agreed once.
+fn sweep_lengths() -> u64 {
+    let mut calls = 0;
+    for devices in [counting(0), counting(127)] {
+        for length in 0..=u8::MAX {
+            let write = Call::Write { index: 0x2003, sub: 0, data: Lent::new([length; 24], 1) };
+            // Zero is refused and leaves 255.
+            let needed = usize::from(length.wrapping_sub(1)) + 1;
+            for agreeing in 0..2 {
+                let mut devices = devices.clone();
+                let agree = std::iter::repeat_n(sample_of(0), agreeing);
+                let differ = std::iter::repeat_n(sample_of(u128::MAX), needed + 1);
+                for call in [write].into_iter().chain(agree).chain(differ) {
+                    devices.play(call, (0, calls));
+                    calls += 1;
+                }
+            }
+        }
+    }
+    calls
+}
+
 fn main() {
     let mut arguments = std::env::args().skip(1);
     let millions: u64 =
         arguments.next().and_then(|n| n.parse().ok()).expect("usage: compare MILLIONS [SEED]");
     let first: u64 = arguments.next().map_or(1, |seed| seed.parse().expect("a seed is a number"));
-    let objects = lists::objects();
+    let objects = lists_objects::objects();
     let mut tally = Tally::default();
     let lists = millions * 1_000_000 / CALLS_OF_A_LIST;
     for seed in first..first + lists {
         play_list(seed, CALLS_OF_A_LIST, &objects, &mut tally);
     }
-    let (swept, entries) = (sweep(&objects), sweep_entries(&objects));
+    let (swept, entries, lengths) = (sweep(&objects), sweep_entries(&objects), sweep_lengths());
     print!("compare: {} calls in {lists} lists (seeds {first} to {}), ", tally.calls, first + lists - 1);
     print!(
         "{} accepted, {} events, {} entries mapped, {} bytes sent, {} read-backs of every entry, ",
         tally.accepted, tally.events, tally.mapped, tally.sent, tally.read_backs
     );
-    println!("{swept} calls on every index, {entries} with every index as an entry: none differs");
+    print!("{swept} calls on every index, {entries} with every index as an entry, ");
+    println!("{lengths} with every filter length over every count: none differs");
 }

@@ -11,6 +11,7 @@ mod paper;
 mod paper_entries;
 mod paper_machines;
 mod paper_mappings;
+mod paper_node;
 mod paper_objects;
 #[allow(dead_code)]
 mod play_expected;

@@ -1,11 +1,10 @@
-//! Document 01 and Item 1 of document 02 line by line: a machine for each line and each channel, which
-//! takes every call by itself, as the paper reads. Slow on purpose.
+//! Document 01 and Items 1 and 2 of document 02 line by line: a machine for each line and each channel,
+//! which takes every call by itself, as the paper reads. Slow on purpose.
 
 use crate::calls::{Answer, Cause, Machine, Message};
-use crate::paper_machines::{
-    AnalogueInput, AnalogueOutput, DeviceWide, DigitalInput, DigitalOutput, Node, State,
-};
+use crate::paper_machines::{AnalogueInput, AnalogueOutput, DigitalInput, DigitalOutput};
 use crate::paper_mappings::{Direction, Mapping};
+use crate::paper_node::{DeviceWide, Node, State};
 use crate::paper_objects::{object, Object};
 
 #[derive(Clone)]

@@ -1,7 +1,7 @@
 //! What the entries of the object dictionary read, and where a write of them goes.
 
 use crate::paper::Device;
-use crate::paper_machines::DeviceWide;
+use crate::paper_node::DeviceWide;
 use crate::paper_objects::{Attribute, Object};
 
 impl Device {
@@ -69,6 +69,7 @@ impl Device {
             Object::ErrorBehaviour => u32::from(self.node.error_behaviour),
             Object::DigitalInterrupts => u32::from(self.node.digital_interrupts),
             Object::AnalogueInterrupts => u32::from(self.node.analogue_interrupts),
+            Object::FilterLength => u32::from(self.node.filter_length),
             Object::InterruptSource => {
                 let mut value = 0;
                 for (n, machine) in self.analogue_inputs.iter_mut().enumerate() {
@@ -118,6 +119,7 @@ impl Device {
             Object::ErrorBehaviour => self.tell_every_machine(DeviceWide::ErrorBehaviour(value as u8)),
             Object::DigitalInterrupts => self.tell_every_machine(DeviceWide::DigitalInterrupts(value == 1)),
             Object::AnalogueInterrupts => self.tell_every_machine(DeviceWide::AnalogueInterrupts(value == 1)),
+            Object::FilterLength => self.tell_every_machine(DeviceWide::FilterLength(value as u8)),
             Object::InputChannel(index) => {
                 let machine = &mut self.analogue_inputs[usize::from(sub) - 1];
                 match index {

@@ -1,6 +1,6 @@
 //! Item 1 of document 02: receive mappings 1600 to 1603 and transmit mappings 1A00 to 1A03.
 
-use crate::paper_machines::DeviceWide;
+use crate::paper_node::DeviceWide;
 use crate::paper_objects::{object, Attribute, Object};
 
 #[derive(Clone, Copy, PartialEq)]

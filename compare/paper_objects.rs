@@ -1,5 +1,5 @@
-//! The object dictionary of document 01 and Item 1 of document 02: what an index names, its entries,
-//! their sizes and values.
+//! The object dictionary of document 01 and Items 1 and 2 of document 02: what an index names, its
+//! entries, their sizes and values.
 
 use crate::paper_mappings::Direction;
 
@@ -42,6 +42,7 @@ pub enum Object {
     ErrorBehaviour,
     DigitalInterrupts,
     AnalogueInterrupts,
+    FilterLength,
     InterruptSource,
     /// 6401, 6421, 6424 to 6428
     InputChannel(u16),
@@ -65,6 +66,7 @@ pub fn object(index: u16) -> Option<Object> {
         0x1029 => Some(Object::ErrorBehaviour),
         0x6005 => Some(Object::DigitalInterrupts),
         0x6423 => Some(Object::AnalogueInterrupts),
+        0x2003 => Some(Object::FilterLength),
         0x6422 => Some(Object::InterruptSource),
         0x6401 | 0x6421 | 0x6424..=0x6428 => Some(Object::InputChannel(index)),
         0x6411 | 0x6443 | 0x6444 => Some(Object::OutputChannel(index)),
@@ -122,12 +124,13 @@ impl Object {
         }
     }
 
-    /// Of document 01 alone; what a mapping takes depends on what stands in it.
+    /// Without Item 1's; what a mapping takes depends on what stands in it.
     pub fn value_refusal(self, value: u32) -> Option<u32> {
         let outside = match self {
             Object::Lines(_, 1) => value > 1,
             Object::ErrorBehaviour => value > 2,
             Object::DigitalInterrupts | Object::AnalogueInterrupts => value > 1,
+            Object::FilterLength => value == 0,
             Object::OutputChannel(0x6443) => value > 1,
             Object::InputChannel(0x6421) => value & 0xE0 != 0,
             _ => false,

@@ -7,13 +7,16 @@ mod calls;
 #[allow(dead_code)]
 mod lists;
 mod lists_entries;
+mod lists_filters;
 mod lists_mappings;
+mod lists_objects;
 mod notation;
 mod notation_messages;
 mod paper;
 mod paper_entries;
 mod paper_machines;
 mod paper_mappings;
+mod paper_node;
 mod paper_objects;
 mod play_expected;
 mod play_model;

@@ -1,6 +1,6 @@
 //! Lists that leave nothing out: every index, every command, every number, every short line.
 
-use crate::lists::objects;
+use crate::lists_objects::objects;
 use crate::notation::BYTE_ORDER_MARK;
 
 /// A list with the name it is blamed by.
@@ -19,6 +19,7 @@ pub fn lists_of_everything() -> Vec<Named> {
         named("every sub-index and size", every_sub_index_and_size()),
         named("every command", every_command()),
         named("every number", every_number()),
+        named("every filter length", every_filter_length()),
         named("every pair of bytes alone", every_pair(b"", b"")),
         named("every pair of bytes as data", every_pair(b"6200:1 = ", b"")),
         named("every pair of bytes as a sub-index", every_pair(b"6120:", b"")),
@@ -107,6 +108,20 @@ fn every_number() -> Vec<u8> {
         let channel = number & 15;
         let numbers: Vec<String> = (0..16).map(|at| (number - at).to_string()).collect();
         list += &format!("sample{} / {}\n6401:{:X}\n", " 5A".repeat(16), numbers.join(" "), channel + 1);
+    }
+    list.into_bytes()
+}
+
+/// Under each length the first 32 lines differ until they settle, to and fro; then each command over one.
+fn every_filter_length() -> Vec<u8> {
+    let mut list = String::from("start\n6123:1 = FF FF FF FF\n");
+    for length in 0..=255 {
+        let byte = if length % 2 == 1 { " FF" } else { " 0" };
+        let sample = format!("sample{} /{}\n", byte.repeat(16), " 0".repeat(16));
+        list += &format!("2003 = {length:x}\n2003\n{}6120:1\n", sample.repeat(length));
+    }
+    for code in [1, 2, 128, 130, 129] {
+        list += &format!("2003 = 7\ncommand {code} 0\n2003\n2003 = 5\npre-operational\n2003\n");
     }
     list.into_bytes()
 }

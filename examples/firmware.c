@@ -17,7 +17,8 @@ typedef struct setting {
 
 /* Written while the node is pre-operational. */
 static const setting SET_UP[] = {
-    {0x6003, 1, 0x01, 1},   /* line 1 is filtered: three samples that agree */
+    {0x6003, 1, 0x01, 1},   /* line 1, a sticky button, is filtered .. */
+    {0x2003, 0, 5, 1},      /* .. and filtered lines settle at the fifth sample in a row, not the third */
     {0x6006, 1, 0x03, 1},   /* of lines 1 to 8 only 1 and 2 report any change .. */
     {0x6007, 1, 0x04, 1},   /* .. and line 3 a rising edge */
     {0x6423, 0, 1, 1},      /* analogue events are on */
@@ -46,7 +47,7 @@ typedef struct tick {
 } tick;
 
 static const tick TICKS[] = {
-    {0x00, 0, 0}, {0x07, 10, 0}, {0x07, 11, 0}, {0x07, 20, 0},
+    {0x00, 0, 0}, {0x07, 10, 0}, {0x07, 11, 0}, {0x07, 20, 0}, {0x07, 20, 0}, {0x07, 20, 0},
     {0x03, 22, -1}, {0x01, 40, 0}, {0x05, 40, 1}, {0x05, 51, 0},
 };
 

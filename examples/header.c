@@ -2,7 +2,7 @@
 #include <io401.h>
 
 /* What the header says of memory. */
-IO401_ASSERT(device, sizeof(io401_device) == 984);
+IO401_ASSERT(device, sizeof(io401_device) == 1080);
 
 uint32_t header_compiles(io401_device *device);
 

@@ -30,7 +30,7 @@
 #define OUTPUT_CHANNELS 8u
 
 /* Which values a write may bring. */
-typedef enum rule { ANY, ZERO_OR_ONE, UP_TO_TWO, LOW_FIVE_BITS, SIXTEEN_BITS_SIGNED, AS_MAPPED } rule;
+typedef enum rule { ANY, ZERO_OR_ONE, UP_TO_TWO, NOT_ZERO, LOW_FIVE_BITS, SIXTEEN_BITS_SIGNED, AS_MAPPED } rule;
 
 typedef struct object {
     uint16_t index;
@@ -58,6 +58,7 @@ static const object OBJECTS[] = {
     {0x1029, 1, 1, true, UP_TO_TWO, 0},
     FOUR_MAPPINGS(0x1600),
     FOUR_MAPPINGS(0x1A00),
+    {0x2003, 0, 1, true, NOT_ZERO, 3}, /* filter length */
     {0x6005, 0, 1, true, ZERO_OR_ONE, 1},
     LINES(0x6020, 0x6000, 0x6100, 0x6120, false, 0),   /* input */
     LINES(0x6030, 0x6002, 0x6102, 0x6122, true, 0),    /* input polarity */
@@ -123,6 +124,8 @@ static uint32_t refusal_of_value(rule takes, uint32_t value)
         return value > 1 ? VALUE_OUTSIDE : 0;
     case UP_TO_TWO:
         return value > 2 ? VALUE_OUTSIDE : 0;
+    case NOT_ZERO:
+        return value == 0 ? VALUE_OUTSIDE : 0;
     case LOW_FIVE_BITS:
         return value > 0x1F ? VALUE_OUTSIDE : 0;
     case SIXTEEN_BITS_SIGNED:
@@ -199,7 +202,8 @@ static const known_write KNOWN_WRITES[] = {
     {0x6445, 1, 0, {0}, INDEX_NOT_LISTED}, {0x15FF, 0, 1, {0}, INDEX_NOT_LISTED},
     {0x1604, 0, 1, {0}, INDEX_NOT_LISTED}, {0x19FF, 1, 4, {0}, INDEX_NOT_LISTED},
     {0x1A04, 9, 1, {9}, INDEX_NOT_LISTED}, {0x1400, 1, 4, {0}, INDEX_NOT_LISTED},
-    {0x1800, 2, 1, {0}, INDEX_NOT_LISTED},
+    {0x1800, 2, 1, {0}, INDEX_NOT_LISTED}, {0x2002, 0, 1, {3}, INDEX_NOT_LISTED},
+    {0x2004, 0, 1, {3}, INDEX_NOT_LISTED}, {0x2000, 9, 0, {0}, INDEX_NOT_LISTED},
     /* sub-index alone, and over access, size and value */
     {0x6200, 0x11, 1, {0}, SUB_INDEX_ABOVE}, {0x6220, 0x81, 1, {0}, SUB_INDEX_ABOVE},
     {0x6320, 5, 4, {0}, SUB_INDEX_ABOVE}, {0x6411, 9, 2, {0}, SUB_INDEX_ABOVE},
@@ -209,7 +213,9 @@ static const known_write KNOWN_WRITES[] = {
     {0x6300, 9, 1, {0}, SUB_INDEX_ABOVE}, {0x6220, 0x81, 1, {2}, SUB_INDEX_ABOVE},
     {0x6444, 9, 4, {0, 0x80}, SUB_INDEX_ABOVE}, {0x6005, 0xFF, 1, {2}, SUB_INDEX_ABOVE},
     {0x1600, 9, 4, {8, 1, 0, 0x62}, SUB_INDEX_ABOVE}, {0x1A03, 9, 1, {9}, SUB_INDEX_ABOVE},
-    {0x1603, 0xFF, 5, {1}, SUB_INDEX_ABOVE},
+    {0x1603, 0xFF, 5, {1}, SUB_INDEX_ABOVE}, {0x2003, 1, 1, {5}, SUB_INDEX_ABOVE},
+    {0x2003, 1, 1, {0}, SUB_INDEX_ABOVE}, {0x2003, 1, 2, {5}, SUB_INDEX_ABOVE},
+    {0x2003, 0xFF, 0, {0}, SUB_INDEX_ABOVE},
     /* access alone, and over size and value */
     {0x6000, 1, 1, {0}, READ_ONLY_ENTRY}, {0x1000, 0, 4, {0x91, 1, 0xF}, READ_ONLY_ENTRY},
     {0x1001, 0, 1, {0}, READ_ONLY_ENTRY}, {0x6401, 1, 2, {0}, READ_ONLY_ENTRY},
@@ -226,6 +232,8 @@ static const known_write KNOWN_WRITES[] = {
     {0x6411, 1, 1, {0}, DATA_TOO_SHORT}, {0x6444, 1, 3, {0, 0x80}, DATA_TOO_SHORT},
     {0x1600, 0, 2, {9}, DATA_TOO_LONG}, {0x1A00, 0, 4, {0}, DATA_TOO_LONG}, {0x1600, 0, 0, {0}, DATA_TOO_SHORT},
     {0x1601, 1, 5, {1}, DATA_TOO_LONG}, {0x1602, 8, 3, {1}, DATA_TOO_SHORT}, {0x1A01, 1, 0, {0}, DATA_TOO_SHORT},
+    {0x2003, 0, 2, {5}, DATA_TOO_LONG}, {0x2003, 0, 2, {0}, DATA_TOO_LONG}, {0x2003, 0, 4, {3}, DATA_TOO_LONG},
+    {0x2003, 0, 0, {0}, DATA_TOO_SHORT},
     /* value, on both sides of each bound */
     {0x6220, 0x80, 1, {1}, 0}, {0x6220, 0x80, 1, {2}, VALUE_OUTSIDE}, {0x6270, 1, 1, {0xFF}, VALUE_OUTSIDE},
     {0x1029, 1, 1, {2}, 0}, {0x1029, 1, 1, {3}, VALUE_OUTSIDE}, {0x6005, 0, 1, {1}, 0},
@@ -235,6 +243,8 @@ static const known_write KNOWN_WRITES[] = {
     {0x6421, 1, 1, {0x80}, VALUE_OUTSIDE}, {0x6444, 8, 4, {0xFF, 0x7F}, 0}, {0x6444, 8, 4, {0, 0x80}, VALUE_ABOVE},
     {0x6444, 1, 4, {0xFF, 0xFF, 0xFF, 0x7F}, VALUE_ABOVE}, {0x6444, 1, 4, {0, 0, 0, 0x80}, VALUE_BELOW},
     {0x6444, 1, 4, {0xFF, 0x7F, 0xFF, 0xFF}, VALUE_BELOW}, {0x6444, 1, 4, {0, 0x80, 0xFF, 0xFF}, 0},
+    {0x2003, 0, 1, {0}, VALUE_OUTSIDE}, {0x2003, 0, 1, {1}, 0}, {0x2003, 0, 1, {2}, 0}, {0x2003, 0, 1, {3}, 0},
+    {0x2003, 0, 1, {254}, 0}, {0x2003, 0, 1, {255}, 0},
     /* nothing is outside for the others */
     {0x6200, 0x10, 1, {0xFF}, 0}, {0x6320, 4, 4, {0xFF, 0xFF, 0xFF, 0xFF}, 0}, {0x6411, 8, 2, {0, 0x80}, 0},
     {0x6424, 0x10, 4, {0, 0, 0, 0x80}, 0}, {0x6428, 1, 4, {0xFF, 0xFF, 0xFF, 0xFF}, 0},

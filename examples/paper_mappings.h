@@ -131,6 +131,9 @@ static const known_write MAPPING_STEPS[] = {
     {0x1A00, 8, 4, {32, 1, 0x22, 0x64}, ENTRY_NOT_MAPPABLE}, {0x1600, 8, 4, {8, 0, 5, 0}, ENTRY_NOT_MAPPABLE},
     {0x1600, 8, 4, {32, 1, 1, 0x16}, ENTRY_NOT_MAPPABLE}, {0x1A00, 8, 4, {8, 0, 1, 0x10}, ENTRY_NOT_MAPPABLE},
     {0x1600, 8, 4, {8, 1, 1, 0x62}, ENTRY_NOT_MAPPABLE}, {0x1600, 8, 4, {1}, ENTRY_NOT_MAPPABLE},
+    /* nor the filter length */
+    {0x1600, 8, 4, {8, 0, 3, 0x20}, ENTRY_NOT_MAPPABLE}, {0x1A00, 8, 4, {8, 0, 3, 0x20}, ENTRY_NOT_MAPPABLE},
+    {0x1600, 8, 4, {8, 1, 3, 0x20}, ENTRY_NOT_MAPPABLE}, {0x1A00, 8, 4, {8, 1, 3, 0x20}, ENTRY_NOT_MAPPABLE},
     /* 8 + 16 + 32 = 56 bits, a fourth entry makes 72; what stands beyond the count is not added */
     {0x1600, 0, 1, {3}, 0}, {0x1600, 0, 1, {4}, MAPPING_TOO_LONG}, {0x1600, 0, 1, {8}, MAPPING_TOO_LONG},
     /* with 6200 for 6411 as the fourth it is 64 */

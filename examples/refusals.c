@@ -1,8 +1,10 @@
 /*
  * Every refusal of every call, from six states of the device, against the papers (paper.h). A refused
  * call must answer the paper's number and nothing else, and leave each byte of the device and of the
- * lent buffers. What stands just inside each bound must be accepted. Ends at the first difference.
+ * lent buffers. What stands just inside each bound must be accepted. And input lines under their filter,
+ * sample by sample (filter.h). Ends at the first difference.
  */
+#include "filter.h"
 #include "messages.h"
 
 #define SHORT 8u     /* data bytes with a value; no entry has more than four */
@@ -28,6 +30,8 @@ static void try_read(const situation *from, uint16_t index, uint8_t sub)
     }
     if (wanted == 0 && at->takes == AS_MAPPED)
         expect(answer.value == mapped_number(&from->mappings[mapping_at(index)], sub), "a mapping reads otherwise");
+    if (wanted == 0 && index == 0x2003)
+        expect(answer.value == from->filter_length, "the filter length reads otherwise");
     if (wanted == 0 && index == 0x6422 && sub == 1)
         expect(io401_read(&device, index, sub).value == 0, "a read of 6422:1 leaves a source bit");
     else
@@ -226,6 +230,39 @@ static void try_mapping_steps(void)
     }
 }
 
+/* The filter length */
+
+/* Every value, and some of them with every sub-index and with data of every length. */
+static void try_filter_length(const situation *from)
+{
+    static const uint8_t SOME[] = {0, 1, 2, 3, 254, 255};
+    uint8_t bytes[SHORT];
+    for (unsigned value = 0; value <= UINT8_MAX; value++) {
+        put(bytes, value);
+        try_write(from, 0x2003, 0, bytes, 1);
+    }
+    for (unsigned sub = 0; sub <= UINT8_MAX; sub++) {
+        try_read(from, 0x2003, (uint8_t)sub);
+        for (size_t n = 0; n < sizeof SOME; n++) {
+            put(bytes, SOME[n]);
+            for (size_t length = 0; length <= SHORT; length++)
+                try_write(from, 0x2003, (uint8_t)sub, bytes, length);
+        }
+    }
+}
+
+/* Its write changes nothing else, counts included: with the old length written again, the device is as it was. */
+static void try_filter_length_alone(const situation *from)
+{
+    for (unsigned length = 1; length <= UINT8_MAX && !from->stopped; length++) {
+        io401_device device;
+        memcpy(&device, &from->device, sizeof device);
+        check_number(io401_write_value(&device, 0x2003, 0, length, 1), 0, "write_value 2003:00 = %02X", length);
+        check_number(io401_write_value(&device, 0x2003, 0, from->filter_length, 1), 0, "write_value 2003:00 again");
+        check_unchanged("two writes of", 0x2003, 0, &device, &from->device);
+    }
+}
+
 /* Samples and drives */
 
 static void try_sample(const situation *from, size_t digital_length, size_t analogue_length, size_t event_length)
@@ -302,6 +339,9 @@ static void check_obeyed(const situation *from, io401_device *device, uint8_t co
         expect(state == IO401_STATE_STOPPED, "stop leaves another state");
     else
         expect(state == IO401_STATE_PRE_OPERATIONAL, "a command leaves another state than pre-operational");
+    if (code != IO401_STOP)
+        expect(io401_read(device, 0x2003, 0).value == (code == IO401_RESET_NODE ? FRESH_LENGTH : from->filter_length),
+               "a command leaves another filter length");
     if (code == IO401_RESET_NODE)
         expect(is_same(device, &fresh), "reset node leaves another device than a fresh one");
     if (code == IO401_RESET_COMMUNICATION) {
@@ -337,6 +377,8 @@ static void try_cause(const situation *from, bool loss)
     expect(io401_clear(&once, loss) == 0, "a clear is refused");
     memcpy(&twice, &once, sizeof twice);
     expect(io401_clear(&twice, loss) == 0 && is_same(&once, &twice), "a second clear changes the device");
+    if (!from->stopped)
+        expect(io401_read(&once, 0x2003, 0).value == from->filter_length, "a cause changes the filter length");
     calls_tried += 4;
 }
 
@@ -391,6 +433,8 @@ static void try_situation(const situation *from)
     situation_name = from->name;
     try_dictionary(from);
     try_mappings(from);
+    try_filter_length(from);
+    try_filter_length_alone(from);
     try_lengths(from);
     try_messages(from);
     for (unsigned code = 0; code <= UINT8_MAX; code++)
@@ -477,6 +521,7 @@ int main(void)
     expect(frames_obeyed > 0 && frames_filled > 0, "no frame moved anything");
     situation_name = "steps by hand";
     try_mapping_steps();
+    try_filters();
     situation_name = "bench cases";
     try_fault();
     try_events();

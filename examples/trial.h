@@ -10,6 +10,8 @@
 #include <string.h>
 
 #define NODE 5
+#define FRESH_LENGTH 3u   /* 2003:0 of a fresh device .. */
+#define UNUSUAL_LENGTH 5u /* .. and where all is written */
 
 /* What it is to be is known here and not asked of the device. */
 typedef struct situation {
@@ -17,6 +19,7 @@ typedef struct situation {
     bool operational;
     bool stopped;
     bool in_fault;
+    uint8_t filter_length;
     mapping mappings[MAPPINGS];
     io401_device device;
 } situation;
@@ -77,6 +80,8 @@ static uint32_t unusual_value(const object *at, unsigned sub)
         return 1 - at->fresh;
     case UP_TO_TWO:
         return 1;
+    case NOT_ZERO:
+        return UNUSUAL_LENGTH;
     case LOW_FIVE_BITS:
         return 0x1F - sub % 8;
     case SIXTEEN_BITS_SIGNED:
@@ -131,18 +136,22 @@ static void write_mappings(situation *to)
     }
 }
 
-/* Three samples, so that filtered lines settle too; some channels have an event and set their source bits. */
+/*
+ * As many samples as settle a filtered line too, and then two that differ, so that each of these lines has a count;
+ * some channels have an event and set their source bits.
+ */
 static void sample_inputs(io401_device *device)
 {
     uint8_t digital[DIGITAL_BYTES], events[DIGITAL_BYTES];
     int16_t analogue[INPUT_CHANNELS];
     uint16_t seen = 0;
-    for (size_t n = 0; n < DIGITAL_BYTES; n++)
-        digital[n] = (uint8_t)(0x3C + n);
     for (size_t n = 0; n < INPUT_CHANNELS; n++)
         analogue[n] = (int16_t)(100 * (int)n - 750);
-    for (int turn = 0; turn < 3; turn++)
+    for (unsigned turn = 0; turn < UNUSUAL_LENGTH + 2; turn++) {
+        for (size_t n = 0; n < DIGITAL_BYTES; n++)
+            digital[n] = (uint8_t)((0x3C + n) ^ (turn < UNUSUAL_LENGTH ? 0 : 0xFF));
         seen |= io401_sample(device, digital, DIGITAL_BYTES, analogue, INPUT_CHANNELS, events, DIGITAL_BYTES).events;
+    }
     expect(seen != 0, "no channel of the set-up has an event");
 }
 
@@ -168,6 +177,7 @@ static void prepare(void)
         situations[n].operational = n == WRITTEN || n == FAILED || n == LOST;
         situations[n].stopped = n == STOPPED;
         situations[n].in_fault = n >= FAILED;
+        situations[n].filter_length = n == FRESH ? FRESH_LENGTH : UNUSUAL_LENGTH;
         expect(io401_create(device, NODE) == 0, "a create is refused");
         if (n == FRESH)
             continue;

@@ -8,10 +8,10 @@
  * 8 analogue outputs, and four process data messages each way. Link with libio401.a, whose functions
  * are proved (crates/io401).
  *
- * Memory: a device has 984 bytes; the archive has 8,703 of code and constants, no data of its own,
+ * Memory: a device has 1,080 bytes; the archive has 10,426 of code and constants, no data of its own,
  * and allocates nothing. Stack of a call in bytes, from C through this header, as bench/stack.c
- * measures it with gcc 12.2 -O2: create 24, read 240, write 496, write_value 512, sample 120,
- * command 88, raise 56, clear 40, drive 8, receive 2288, transmit 1800.
+ * measures it with gcc 12.2 -O2: create 24, read 256, write 512, write_value 528, sample 224,
+ * command 120, raise 72, clear 40, drive 8, receive 2304, transmit 1800.
  * Symbols needed from outside: none, not even memcpy. The code uses SSE2 registers and the 128 bytes
  * below the stack pointer (the red zone), as any program on x86-64 Linux may.
  *
@@ -97,18 +97,18 @@ extern "C" {
          : ((uint32_t)(index) << 16 | (uint32_t)(sub) << 8 | (uint32_t)(bits)))
 
 /* Elements of a device's arrays, as in crates/channels/src/fields.rt and crates/windows/src/lib.rt. */
-#define IO401_OCTETS 21
+#define IO401_OCTETS 22
 #define IO401_FLAGS 12
-#define IO401_WORDS 28
+#define IO401_WORDS 40
 #define IO401_LIMITS 32
 #define IO401_DELTAS 120
 #define IO401_VALUES 56
 
 /* The arrays may be read, best through io401_read; element n - 1 of a column is channel n's. */
 typedef struct io401_device {
-    uint8_t octets[IO401_OCTETS];  /* node number, state (IO401_STATE_..), 1029:1; 6421 (16); source bits (2) */
+    uint8_t octets[IO401_OCTETS];  /* node number, state (IO401_STATE_..), 1029:1; 6421 (16); source bits (2); 2003 */
     bool flags[IO401_FLAGS];       /* the two causes, 6005, 6423; 6443 (8) */
-    uint64_t words[IO401_WORDS];   /* fourteen rows of 128 lines */
+    uint64_t words[IO401_WORDS];   /* twenty rows of 128 lines; the last eight are the bits of the filter's counts */
     int32_t limits[IO401_LIMITS];  /* 6424, 6425 (16 each) */
     uint32_t deltas[IO401_DELTAS]; /* 6426, 6427, 6428 (16 each); 1600 to 1603, 1A00 to 1A03 (9 each, by sub-index) */
     int16_t values[IO401_VALUES];  /* 6401, the last event's number (16 each); 6444, 6411, what is driven (8 each) */
@@ -224,6 +224,9 @@ static inline uint32_t io401_write_value(io401_device *device, uint16_t index, u
 
 /*
  * Takes one sample of all inputs: sixteen bytes of digital inputs and sixteen analogue inputs.
+ * An input line takes a new value at once; with its filter on (6003) when as many samples in a row as the
+ * filter length (2003:0, 1 to 255, fresh 3) have differed from the old one. A write of 2003:0 keeps the
+ * counts and settles nothing by itself.
  * Fills the sixteen bytes of `events` with a 1 for each input line that has an event and a 0 for
  * each other. Events come while the node is operational; samples are taken in every state.
  */

@@ -19,7 +19,7 @@ use Rattle.channels.proofs.StoreLaws.{outside-none, outside-set, two-first, two
 parts : (v : ℕ) → v % 256 + 256 * (v / 256) ≡ v
 parts v = omega arith
 
-pub sources-stored : (octets : List ℕ) (v : ℕ) → length octets ≡ 21 → SourcesStored v octets (sourcesSet octets v)
+pub sources-stored : (octets : List ℕ) (v : ℕ) → length octets ≡ 22 → SourcesStored v octets (sourcesSet octets v)
 sources-stored octets v l =
     record {
       are =

@@ -22,7 +22,7 @@ use Rattle.channels.proofs.StoreLaws.{three-first, three-second, three-third, t
 
 module _ (octets : List ℕ) (limits : List ℤ) (deltas : List ℕ) (values : List ℤ) (n : ℕ) (x : AnalogueInput)
     (h : n < 16)
-    (lo : length octets ≡ 21) (ll : length limits ≡ 32) (ld : length deltas ≡ 120) where
+    (lo : length octets ≡ 22) (ll : length limits ≡ 32) (ld : length deltas ≡ 120) where
   abbrev before : ℕ → AnalogueInput
   before = inputAt octets limits deltas values
 
@@ -31,7 +31,7 @@ module _ (octets : List ℕ) (limits : List ℤ) (deltas : List ℕ) (values : L
 
   still-sources : sourcesOf (selectionSet octets n x) ≡ sourcesOf octets
   still-sources = sources-kept octets (selectionSet octets n x)
-      (λ k l. getD-set-other octets (3 + n) k (x .selection) 0 (λ (e : k ≡ 3 + n). omega arith))
+      (λ k l m. getD-set-other octets (3 + n) k (x .selection) 0 (λ (e : k ≡ 3 + n). omega arith))
 
   settings-here : (index v : ℕ) → x ≡ writeAnalogueInput index v (before n) → set-after n ≡ writeAnalogueInput index v (before n)
   unfolding writeAnalogueInput

@@ -146,7 +146,7 @@ pub fn sample_all(
     xs: &[i16],
     on: bool,
 ) -> u16
-    requires { ⌜ (length (now octets) ≡ 21) × (length (now values) ≡ 56) ⌝ }
+    requires { ⌜ (length (now octets) ≡ 22) × (length (now values) ≡ 56) ⌝ }
     requires { ⌜ length (now xs) ≡ 16 ⌝ }
     ensures { λ r. ⌜ InputsSampled on (now (xs .entry)) r
         (inputAt (now (octets .entry)) (now (limits .entry)) (now (deltas .entry)) (now (values .entry)))
@@ -168,7 +168,7 @@ pub fn read_sources(octets: &Octets) -> u32
 
 // Every source bit becomes 0.
 pub fn clear_sources(octets: &mut Octets)
-    requires { ⌜ length (now octets) ≡ 21 ⌝ }
+    requires { ⌜ length (now octets) ≡ 22 ⌝ }
     ensures { λ _. ⌜ SourcesStored 0 (now (octets .entry)) (now (octets .exit)) ⌝ }
 {
     set_sources(octets, 0);
@@ -243,7 +243,7 @@ pub fn write_at(
     index: u16,
     value: u32,
 )
-    requires { ⌜ (length (now octets) ≡ 21) × (length (now limits) ≡ 32) × (length (now deltas) ≡ 120) ⌝ }
+    requires { ⌜ (length (now octets) ≡ 22) × (length (now limits) ≡ 32) × (length (now deltas) ≡ 120) ⌝ }
     requires { ⌜ (n < 16) × (value < 256 ^ inputSize index) ⌝ }
     ensures { λ _. ⌜ InputStored index n value
         (inputAt (now (octets .entry)) (now (limits .entry)) (now (deltas .entry)) (now (values .entry)))

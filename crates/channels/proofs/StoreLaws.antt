@@ -25,7 +25,7 @@ module _ {A : Type 0} {a b : ℕ} {d : A} {xs : List A} where
         high = λ j h. getD-set-other ys k j v d (λ (q : j ≡ k). omega arith) ∙ o .high j h;
       }
 
--- ---- two or three elements stored
+-- ---- two, three or four elements stored
 
 module _ {A : Type 0} (xs : List A) (p q : ℕ) (a b d : A) where
   pub two-first : (p ≡ q → ⊥) → p < length xs → getD (set (set xs p a) q b) p d ≡ a
@@ -53,14 +53,22 @@ module _ {A : Type 0} (xs : List A) (p q r : ℕ) (a b c d : A) where
   pub three-other : (k : ℕ) → (k ≡ p → ⊥) → (k ≡ q → ⊥) → (k ≡ r → ⊥) → getD stored k d ≡ getD xs k d
   three-other k np nq nr = getD-set-other (set (set xs p a) q b) r k c d nr ∙ two-other xs p q a b d k np nq
 
+  -- and a fourth
+  pub fourth-other : (s : ℕ) (v : A) (k : ℕ) → (k ≡ s → ⊥) → getD (set stored s v) k d ≡ getD stored k d
+  fourth-other s v k ne = getD-set-other stored s k v d ne
+
+  pub fourth-same : (s : ℕ) (v : A) → s < length xs → getD (set stored s v) s d ≡ v
+  fourth-same s v h =
+      getD-set-same stored s v d (rw (length-set (set (set xs p a) q b) r c, length-set (set xs p a) q b, length-set xs p a) h)
+
 -- places of one column differ where the channels do
 pub elsewhere : (b i n : ℕ) → (i ≡ n → ⊥) → b + i ≡ b + n → ⊥
 elsewhere b i n ne e = ne (omega arith)
 
--- octets that stay from 19 on have the same source bits
-pub sources-kept : (octets octets′ : List ℕ) → ((k : ℕ) → 19 ≤ k → getD octets′ k 0 ≡ getD octets k 0)
+-- where octets 19 and 20 stay, the source bits do
+pub sources-kept : (octets octets′ : List ℕ) → ((k : ℕ) → 19 ≤ k → k < 21 → getD octets′ k 0 ≡ getD octets k 0)
     → sourcesOf octets′ ≡ sourcesOf octets
-sources-kept octets octets′ h = ap₂ (λ (a b : ℕ). a + 256 * b) (h 19 (omega arith)) (h 20 (omega arith))
+sources-kept octets octets′ h = ap₂ (λ (a b : ℕ). a + 256 * b) (h 19 (omega arith) (omega arith)) (h 20 (omega arith) (omega arith))
 
 -- ---- elements that became 0
 

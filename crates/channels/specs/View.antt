@@ -1,6 +1,7 @@
 -- Where the analogue channels stand in the arrays that the device lends. A field of channel n (from 0) is element n of its column; the
 -- columns of an array follow one another.
--- octets: 3 of the node, then selection (16), then the source bits of all channels as a number of two bytes, the low one first.
+-- octets: 3 of the node, then selection (16), then the source bits of all channels as a number of two bytes, the low one first, then one
+-- more of the node.
 -- flags: 4 of the node, then mode (8). limits: upper, lower. deltas: delta, negative, positive, then the mappings.
 -- values: last, reference (16 each), error, kept, driven (8 each).
 -- Assumes nothing.

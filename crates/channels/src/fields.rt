@@ -10,7 +10,7 @@ ghost use Rattle.channels.specs.View.{inputWith, inputAt, outputAt, driv
 ghost use Rattle.channels.specs.View.{samplesSet, sourcesSet, outputSet, modeSet, modesSet, Zeroed};
 
 // How many elements each array that the device lends has; the mappings stand at the end of deltas.
-pub const OCTETS: usize = 21;
+pub const OCTETS: usize = 22;
 
 pub const FLAGS: usize = 12;
 

@@ -85,15 +85,15 @@ module _ (a b : Device) (p : Allowed a) (q : Allowed b) (u : Normal a) (v : Norm
 
   octets : a .octets ≡ b .octets
   octets =
-      same-array 0 21 (a .octets) (b .octets) (p .sized .octets) (q .sized .octets)
-      (split (a .octets) (b .octets) 0 19 2
+      same-array 0 22 (a .octets) (b .octets) (p .sized .octets) (q .sized .octets)
+      (split (a .octets) (b .octets) 0 19 3
       (split (a .octets) (b .octets) 0 3 16
       (λ k h. all-at {P = λ k. getD (a .octets) k 0 ≡ getD (b .octets) k 0} {k = 0}
       (ap (λ (n : Node). n .number) node ▸ state ▸ ap (λ (n : Node). n .behaviour) node ▸ end) k (omega arith) h)
       (λ i h. ap (λ (m : AnalogueInput). m .selection) (input i h)))
       (λ i h. all-at {P = λ i. getD (a .octets) (19 + i) 0 ≡ getD (b .octets) (19 + i) 0} {k = 0}
       (same-low _ _ _ _ (p .each-octet 19) (q .each-octet 19) sources ▸ same-high _ _ _ _ (p .each-octet 19)
-      (q .each-octet 19) sources ▸ end)
+      (q .each-octet 19) sources ▸ ap (λ (n : Node). n .length) node ▸ end)
       i (omega arith) h))
 
   flags : a .flags ≡ b .flags

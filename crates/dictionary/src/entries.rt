@@ -237,6 +237,7 @@ fn object(index: u16, sub: u8) -> Entry
         0x1000 => reading(sub, 0, 4, Home::Constant(0x000F_0191)),
         0x1001 => reading(sub, 0, 1, Home::Device(index)),
         0x1029 => setting(sub, 1, 1, 0, 2, Home::Device(index)),
+        0x2003 => setting(sub, 0, 1, 1, 255, Home::Device(index)),
         0x6005 => setting(sub, 0, 1, 0, 1, Home::Device(index)),
         0x6401 => reading(sub, 16, 2, Home::InputChannel(index, n)),
         0x6411 => setting(sub, 8, 2, 0, ANY, Home::OutputChannel(index, n)),

@@ -106,7 +106,7 @@ module _ {fault : Bool} {words mid : List ℕ} {w s v : ℕ} where
             bit-xor v x (bitOf w s i)
             ∙ ap (flip (bitAt v (bitOf w s i))) (ap (λ (n : ℕ). bitAt n (bitOf w s i)) ex ∙ window-bit words 7 w s i e)
 
-        all : (i : ℕ) → i < 128 → (a : ℕ) → a < 14 → lineAt out a i ≡ after i a
+        all : (i : ℕ) → i < 128 → (a : ℕ) → a < 20 → lineAt out a i ≡ after i a
         all i h a ha =
             o .lines a i ha h
             ∙ ap₂ (λ (g y : Bool). cond (eqb a 11 && inside w s i && g) (bitAt (bitXor v x) (bitOf w s i)) y)
@@ -135,7 +135,7 @@ module _ {fault : Bool} {words mid : List ℕ} {w s v : ℕ} where
             bit-xor x v (bitOf w s i)
             ∙ ap (λ (k : Bool). flip k (bitAt v (bitOf w s i))) (ap (λ (n : ℕ). bitAt n (bitOf w s i)) ex ∙ window-bit words 6 w s i e)
 
-        all : (i : ℕ) → i < 128 → (a : ℕ) → a < 14 → lineAt out a i ≡ after i a
+        all : (i : ℕ) → i < 128 → (a : ℕ) → a < 20 → lineAt out a i ≡ after i a
         all i h a ha =
             o .lines a i ha h
             ∙ ap (cond (eqb a 11 && inside w s i) (bitAt (bitXor x v) (bitOf w s i))) (m .lines a i ha h)

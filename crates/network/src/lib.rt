@@ -153,7 +153,7 @@ fn reset_transmitted(deltas: &mut Deltas, code: u8)
 
 // Where fault begins or ends every output moves.
 fn follow_fault(flags: &Flags, words: &mut Words, values: &mut Values, before: bool, after: bool)
-    requires { ⌜ (length (now words) ≡ 28) × (length (now values) ≡ 56) ⌝ }
+    requires { ⌜ (length (now words) ≡ 40) × (length (now values) ≡ 56) ⌝ }
     ensures { λ _. ⌜ Followed before after (now (flags .entry)) (now (words .entry)) (now (words .exit)) (now (values .entry))
         (now (values .exit)) ⌝ }
 {

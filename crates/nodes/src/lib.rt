@@ -30,6 +30,7 @@ pub fn fresh(number: u8) -> Node
         behaviour: 0,
         digital: true,
         analogue: false,
+        length: 3,
     }
 }
 
@@ -72,6 +73,7 @@ fn with_state(node: Node, state: State) -> Node
         behaviour: node.behaviour,
         digital: node.digital,
         analogue: node.analogue,
+        length: node.length,
     }
 }
 
@@ -147,13 +149,17 @@ fn with_communication_reset(mut node: Node) -> Node
     with_state(node, State::PreOperational)
 }
 
-// An accepted write of 1029:1, 6005:0 or 6423:0; any other index leaves the node.
+// An accepted write of 1029:1, 2003:0, 6005:0 or 6423:0; any other index leaves the node.
 pub fn written(mut node: Node, index: u16, value: u32) -> Node
     requires { ⌜ value < 256 ⌝ }
     ensures { λ r. ⌜ r ≡ writeNode (Home.Device index) value node ⌝ }
 {
     if index == 0x1029 {
         node.behaviour = value as u8;
+        return node;
+    }
+    if index == 0x2003 {
+        node.length = value as u8;
         return node;
     }
     if index == 0x6005 {
@@ -174,6 +180,9 @@ pub fn read(node: Node, index: u16) -> u32
     }
     if index == 0x1029 {
         return node.behaviour as u32;
+    }
+    if index == 0x2003 {
+        return node.length as u32;
     }
     if index == 0x6005 {
         return node.digital as u32;

@@ -120,7 +120,7 @@ fn value_at(
 
 // A read of 6422:1 clears the source bits that it answers.
 fn take_sources(octets: &mut Octets, home: Home)
-    requires { ⌜ length (now octets) ≡ 21 ⌝ }
+    requires { ⌜ length (now octets) ≡ 22 ⌝ }
     ensures { λ _. ⌜ SourcesRead home (now (octets .entry)) (now (octets .exit)) ⌝ }
 {
     if let Home::Sources = home {

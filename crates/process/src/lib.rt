@@ -55,7 +55,7 @@ pub fn sample(
     }
     let node = node_at(octets, flags);
     let operational = is_operational(node);
-    let edges = machines::sample(words, Row::load(digital));
+    let edges = machines::sample(words, Row::load(digital), node.length);
     reported(edges, operational & node.digital).store(events);
     let on = operational & node.analogue;
     let met = sample_all(octets, limits, deltas, values, analogue, on);

@@ -10,11 +10,8 @@ use Rattle.profile.specs.declared.Entry.{Entry}
 use Rattle.profile.specs.declared.Home.{Home}
 use Rattle.profile.specs.declared.Home.the-variants.{Constant, Window, InputChannel, OutputChannel, Sources, Device, MappingEntry}
 use Rattle.profile.specs.MappedEntries.{receives, indexOf, subOf, bitsOf, mappedEntry, mappable, moves, moved}
+use Rattle.profile.proofs.BoolLaws.{both}
 use Rattle.profile.proofs.EntryRanges.{InRange, in-range}
-
-pub both : (a b : Bool) → a && b ≡ true → (a ≡ true) × (b ≡ true)
-both true b e = (refl, e)
-both false b e = absurd (false≢true e)
 
 -- ---- the entry of what moves
 

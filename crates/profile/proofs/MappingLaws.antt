@@ -1,7 +1,7 @@
 -- Document 02, Item 1: the mappings after any list and after a reset, and what a receive mapping may name.
 -- Assumes nothing.
 use mathlib.Core.Path.{_≡_, refl, ap, _∙_, sym, subst}
-use mathlib.Core.Bool.{Bool, true, false, not, cond, _||_, _&&_, false≢true, true≢false}
+use mathlib.Core.Bool.{Bool, true, false, not, cond, _||_, _&&_, false≢true}
 use mathlib.Core.List.{List, [], _∷_}
 use Prim.Native.Nat.{ℕ, zero, suc, _*_, _-_, _≤_}
 use native.Mathlib.Omega.{arith}
@@ -24,6 +24,7 @@ use Rattle.profile.specs.Machines.{mapping, Machine, freshMachine, entry
 use Rattle.profile.specs.Machines.{nextOwn, next, known, hear, step}
 use Rattle.profile.specs.Heard.{freshMachines, fold, spoken}
 use Rattle.profile.specs.Lists.{after}
+use Rattle.profile.proofs.BoolLaws.{neither}
 use Rattle.profile.proofs.EntryRanges.{InRange, in-range}
 use Rattle.profile.proofs.MappedLaws.{moving, wide, left-both, output-index}
 use Rattle.profile.proofs.RefusalLaws.{none-holds, write-passed}
@@ -60,10 +61,6 @@ set-holds P (x ∷ xs) zero v p q zero = p
 set-holds P (x ∷ xs) zero v p q (suc n) = q (suc n)
 set-holds P (x ∷ xs) (suc i) v p q zero = q zero
 set-holds P (x ∷ xs) (suc i) v p q (suc n) = set-holds P xs i v p (λ k. q (suc k)) n
-
-neither : (a b : Bool) → a || b ≡ false → (a ≡ false) × (b ≡ false)
-neither true b e = absurd (true≢false e)
-neither false b e = (refl, e)
 
 module _ (m : ℕ) (o : Mapping) (s : SoundMapping m o) (sub v : ℕ) where
   -- at sub-index 0 or another, where none of the three checks holds

@@ -26,7 +26,8 @@ use Rattle.profile.specs.Machines.{nodeAlone}
 use Rattle.profile.specs.Heard.{Machines, stepEach, conditions, numberOf, inForce, frameWrites, receiveWrites, heardAs, stepAll}
 use Rattle.profile.specs.Replies.{readValue, readReply, answer, frameOf, sends, answerTo, reply}
 use Rattle.profile.specs.Lists.{after}
-use Rattle.profile.proofs.MappedLaws.{both, moving, moving-present, moved-none}
+use Rattle.profile.proofs.BoolLaws.{both, picked}
+use Rattle.profile.proofs.MappedLaws.{moving, moving-present, moved-none}
 use Rattle.profile.proofs.NodesAgree.{nodeBy, bare, step-node}
 use Rattle.profile.proofs.MappingLaws.{mapping-sound, Receivable, moving-receivable}
 
@@ -101,11 +102,6 @@ write-node ms index sub payload h =
     let n = ms nodeAlone 0 .node in
     step-node nodeAlone 0 (write index sub payload) (ms nodeAlone 0)
     ∙ ap (λ (b : Bool). cond b (nodeBy (bare n) (write index sub payload) n) n) h
-
--- what holds of each of two where the test picks it
-picked : {A : Type 0} (P : A → Type 0) (t : Bool) (x y : A) → (t ≡ true → P x) → (t ≡ false → P y) → P (cond t x y)
-picked P true x y p q = p refl
-picked P false x y p q = q refl
 
 each-accepted : (m : ℕ) → receives m ≡ true → (vs frame : List ℕ) (ms : Machines) → operational (ms nodeAlone 0 .node) ≡ true
     → total m vs ≤ length frame → Bytes frame → AllAccepted ms (frameWrites m vs frame)

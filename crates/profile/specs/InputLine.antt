@@ -1,4 +1,4 @@
--- Document 01, "Digital lines": the input machine.
+-- Document 01, "Digital lines", with document 02, Item 2: the input machine.
 -- Assumes nothing.
 use mathlib.Core.Bool.{Bool, true, false, not, cond, _||_, _&&_, Bool·beq}
 use mathlib.Core.List.{[], _∷_}
@@ -51,12 +51,13 @@ settle f c m =
     }
 
 -- "A sample s: filter off, f becomes s and c 0. Filter on and s = f, c becomes 0. Filter on and s differs, c rises by 1; at 3, f becomes
--- s and c 0."
-unfoldable pub sampleLine : Bool → InputLine → InputLine
-sampleLine s m =
+-- s and c 0."; document 02, Item 2: "Object 2003:0 .. replaces the fixed 3": "a line settles at the first differing sample whose count
+-- reaches or passes the new length"
+unfoldable pub sampleLine : ℕ → Bool → InputLine → InputLine
+sampleLine length s m =
     cond (not (m .filter)) (settle s 0 m)
     (cond (Bool·beq s (m .settled)) (settle (m .settled) 0 m)
-    (cond (leb 3 (m .count + 1)) (settle s 0 m)
+    (cond (leb length (m .count + 1)) (settle s 0 m)
     (settle (m .settled) (m .count + 1) m)))
 
 -- "The input reads f, inverted where polarity is 1."
@@ -64,14 +65,14 @@ abbrev pub reads : InputLine → Bool
 reads m = flip (m .settled) (m .polarity)
 
 -- "With f changed, the edge is read under the present polarity": f changed, and any-change or the mask of that direction is 1
-unfoldable pub edge : Bool → InputLine → Bool
-edge s m =
-    flip (m .settled) (sampleLine s m .settled)
-    && (m .anyChange || cond (reads (sampleLine s m)) (m .lowToHigh) (m .highToLow))
+unfoldable pub edge : ℕ → Bool → InputLine → Bool
+edge length s m =
+    flip (m .settled) (sampleLine length s m .settled)
+    && (m .anyChange || cond (reads (sampleLine length s m)) (m .lowToHigh) (m .highToLow))
 
 -- "It is an event exactly when the node is operational, 6005 is 1, and any-change or the mask of that direction is 1."
 unfoldable pub lineEvent : Node → Bool → InputLine → Bool
-lineEvent n s m = operational n && n .digital && edge s m
+lineEvent n s m = operational n && n .digital && edge (n .length) s m
 
 -- "Writing polarity, filter or a mask is no edge and leaves f and c." Row 0 is read only
 unfoldable pub writeInputLine : ℕ → Bool → InputLine → InputLine
@@ -101,7 +102,7 @@ inputLines =
       names = λ e i. atWindow false (λ row w s. ltb row 6 && inside w s i) e;
       written = λ e v i n o. atWindow o (λ row w s. writeInputLine row (bitAt v (bitOf w s i)) o) e;
       joins = λ c i. onSample false (λ digital analogue. true) c;
-      joined = λ c i n o. onSample o (λ digital analogue. sampleLine (lineBit digital i) o) c;
+      joined = λ c i n o. onSample o (λ digital analogue. sampleLine (n .length) (lineBit digital i) o) c;
       cleared = λ o. o;
       emptied = λ o. o;
       moved = λ before after o. o;

@@ -21,3 +21,4 @@ pub mod Replies
 pub mod Outcome
 pub mod Lists
 pub mod Bench
+pub mod FilterLength

@@ -13,7 +13,8 @@ use Rattle.profile.specs.MappedEntries.{emptyMapping}
 use Rattle.profile.specs.Calls.{Plain, read, write, sample, command, raise, clear, drive}
 use Rattle.profile.specs.Rules.{Rules, put}
 
--- "Device-wide for the machines are commands, causes, writes of 1029:1, 6005 and 6423, and reads of 6422:1"
+-- "Device-wide for the machines are commands, causes, writes of 1029:1, 6005 and 6423, and reads of 6422:1"; document 02, Item 2: "Writing
+-- [2003:0] is device-wide for the machines"
 abbrev pub writesSetting : Home → Bool
 writesSetting e = atDevice false (λ index. not (eqb index 0x1001)) e
 
@@ -31,7 +32,7 @@ abbrev pub writeNode : Home → ℕ → Node → Node
 writeNode e v n =
     atDevice n
     (λ index. withSettings (put index 0x1029 v (n .behaviour)) (put index 0x6005 (eqb v 1) (n .digital))
-    (put index 0x6423 (eqb v 1) (n .analogue)) n) e
+    (put index 0x6423 (eqb v 1) (n .analogue)) (put index 0x2003 v (n .length)) n) e
 
 unfoldable pub nextNode : Plain → Node → Node
 nextNode (read index sub) n = n
@@ -42,13 +43,14 @@ nextNode (raise cause) n = raiseNode cause n
 nextNode (clear cause) n = clearNode cause n
 nextNode (drive lines channels) n = n
 
--- "1001:0 error register: bit 0 for any cause, also bit 4 for communication loss"; 1029:1, 6005 and 6423
+-- "1001:0 error register: bit 0 for any cause, also bit 4 for communication loss"; 1029:1, 2003:0, 6005 and 6423
 unfoldable pub readNode : ℕ → Node → ℕ
 readNode index n =
     cond (eqb index 0x1001) (bit (n .internal || n .lost) + 16 * bit (n .lost))
     (cond (eqb index 0x1029) (n .behaviour)
+    (cond (eqb index 0x2003) (n .length)
     (cond (eqb index 0x6005) (bit (n .digital))
-    (bit (n .analogue))))
+    (bit (n .analogue)))))
 
 abbrev pub nodesAlone : Rules
 nodesAlone =

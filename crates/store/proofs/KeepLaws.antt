@@ -5,8 +5,7 @@ use mathlib.Core.Bool.{Bool, false, false≢true}
 use mathlib.Core.List.{List}
 use Prim.Native.Nat.{ℕ, _+_, _≤_, _<_}
 use native.Mathlib.Omega.{arith}
-use lib.ListN.{length, getD, set, length-set}
-use lib.Seq.{getD-set-same, getD-set-other}
+use lib.ListN.{length, getD, set}
 use lib.IntN.{ℤ, pos}
 use Rattle.profile.specs.declared.State.{State}
 use Rattle.profile.specs.declared.State.the-variants.{PreOperational, Operational, Stopped}
@@ -17,16 +16,17 @@ use Rattle.profile.specs.Outcome.{Outcome}
 use Rattle.channels.specs.View.{inputAt, outputAt, Outside}
 use Rattle.profile.proofs.ListLaws.{listFrom-cong}
 use Rattle.mappings.specs.View.{placeOf, mappingAt}
-use Rattle.channels.proofs.StoreLaws.{outside-none, outside-set, sources-kept, three-first, three-second, three-third}
+use Rattle.channels.proofs.StoreLaws.{outside-none, outside-set, sources-kept, three-first, three-second, three-third, three-other}
+use Rattle.channels.proofs.StoreLaws.{fourth-other, fourth-same}
 use Rattle.store.specs.View.{stateOf, stateNumber, nodeAt, nodeOctets, nodeFlags, Store, machinesOf, Normal}
 use Rattle.store.specs.Promises.{elsewhere, Ensured}
 
 -- ---- what stays
 
 module _ (octets octets′ : List ℕ) (flags flags′ : List Bool) where
-  pub node-kept : ((k : ℕ) → k < 3 → getD octets′ k 0 ≡ getD octets k 0) → ((k : ℕ) → k < 4 → getD flags′ k false ≡ getD flags k false)
-      → nodeAt octets′ flags′ ≡ nodeAt octets flags
-  node-kept o f =
+  pub node-kept : ((k : ℕ) → k < 3 → getD octets′ k 0 ≡ getD octets k 0) → getD octets′ 21 0 ≡ getD octets 21 0
+      → ((k : ℕ) → k < 4 → getD flags′ k false ≡ getD flags k false) → nodeAt octets′ flags′ ≡ nodeAt octets flags
+  node-kept o last f =
       λ t. record {
         number = o 0 (omega arith) t;
         state = stateOf (o 1 (omega arith) t);
@@ -35,10 +35,11 @@ module _ (octets octets′ : List ℕ) (flags flags′ : List Bool) where
         behaviour = o 2 (omega arith) t;
         digital = f 2 (omega arith) t;
         analogue = f 3 (omega arith) t;
+        length = last t;
       }
 
 pub inputs-kept : (octets octets′ : List ℕ) (limits : List ℤ) (deltas deltas′ : List ℕ) (values values′ : List ℤ)
-    → ((k : ℕ) → 3 ≤ k → getD octets′ k 0 ≡ getD octets k 0) → ((k : ℕ) → k < 48 → getD deltas′ k 0 ≡ getD deltas k 0)
+    → ((k : ℕ) → 3 ≤ k → k < 21 → getD octets′ k 0 ≡ getD octets k 0) → ((k : ℕ) → k < 48 → getD deltas′ k 0 ≡ getD deltas k 0)
     → ((k : ℕ) → k < 32 → getD values′ k (pos 0) ≡ getD values k (pos 0))
     → (i : ℕ) → i < 16 → inputAt octets′ limits deltas′ values′ i ≡ inputAt octets limits deltas values i
 inputs-kept octets octets′ limits deltas deltas′ values values′ o d v i h =
@@ -50,8 +51,8 @@ inputs-kept octets octets′ limits deltas deltas′ values values′ o d v i h 
       positive = d (32 + i) (omega arith) t;
       last = v i (omega arith) t;
       reference = v (16 + i) (omega arith) t;
-      selection = o (3 + i) (omega arith) t;
-      source = bitAt (sources-kept octets octets′ (λ k l. o k (omega arith)) t) i;
+      selection = o (3 + i) (omega arith) (omega arith) t;
+      source = bitAt (sources-kept octets octets′ (λ k l m. o k (omega arith) m) t) i;
     }
 
 pub outputs-kept : (flags flags′ : List Bool) (values values′ : List ℤ) → ((k : ℕ) → 4 ≤ k → getD flags′ k false ≡ getD flags k false)
@@ -81,14 +82,25 @@ state-back PreOperational = refl
 state-back Operational = refl
 state-back Stopped = refl
 
-module _ (octets : List ℕ) (flags : List Bool) (n : Node) (lo : length octets ≡ 21) (lf : length flags ≡ 12) where
-  state-stored : getD (nodeOctets octets n) 1 0 ≡ stateNumber (n .state)
-  state-stored = three-second octets 0 1 2 (n .number) (stateNumber (n .state)) (n .behaviour) 0 (λ e. omega (arith, e)) (omega (arith, lo))
+module _ (octets : List ℕ) (flags : List Bool) (n : Node) (lo : length octets ≡ 22) (lf : length flags ≡ 12) where
+  -- the octet of the length is stored past the three others, and the flag of 6423 past its three
+  octet-past : (k : ℕ) → (k ≡ 21 → ⊥) → getD (nodeOctets octets n) k 0
+      ≡ getD (set (set (set octets 0 (n .number)) 1 (stateNumber (n .state))) 2 (n .behaviour)) k 0
+  octet-past = fourth-other octets 0 1 2 (n .number) (stateNumber (n .state)) (n .behaviour) 0 21 (n .length)
 
-  pub node-octets : Outside 0 3 0 octets (nodeOctets octets n)
-  node-octets =
-      outside-set 2 _ (omega arith) (omega arith)
-      (outside-set 1 _ (omega arith) (omega arith) (outside-set 0 _ (omega arith) (omega arith) outside-none))
+  flag-past : (k : ℕ) → (k ≡ 3 → ⊥) → getD (nodeFlags flags n) k false ≡ getD
+      (set (set (set flags 0 (n .internal)) 1 (n .lost)) 2 (n .digital)) k false
+  flag-past = fourth-other flags 0 1 2 (n .internal) (n .lost) (n .digital) false 3 (n .analogue)
+
+  state-stored : getD (nodeOctets octets n) 1 0 ≡ stateNumber (n .state)
+  state-stored = octet-past 1 (λ e. omega (arith, e))
+      ∙ three-second octets 0 1 2 (n .number) (stateNumber (n .state)) (n .behaviour) 0 (λ e. omega (arith, e)) (omega (arith, lo))
+
+  pub node-octets : (k : ℕ) → 3 ≤ k → k < 21 → getD (nodeOctets octets n) k 0 ≡ getD octets k 0
+  node-octets k from to =
+      octet-past k (λ e. omega (arith, e))
+      ∙ three-other octets 0 1 2 (n .number) (stateNumber (n .state)) (n .behaviour) 0 k (λ e. omega (arith, e)) (λ e. omega (arith, e))
+      (λ e. omega (arith, e))
 
   pub node-flags : Outside 0 4 false flags (nodeFlags flags n)
   node-flags =
@@ -96,31 +108,24 @@ module _ (octets : List ℕ) (flags : List Bool) (n : Node) (lo : length octets 
       (outside-set 2 _ (omega arith) (omega arith)
       (outside-set 1 _ (omega arith) (omega arith) (outside-set 0 _ (omega arith) (omega arith) outside-none)))
 
-  -- the fourth flag is stored past the three others
-  past : (k : ℕ) → (k ≡ 3 → ⊥) → getD (nodeFlags flags n) k false ≡ getD
-      (set (set (set flags 0 (n .internal)) 1 (n .lost)) 2 (n .digital)) k false
-  past k ne = getD-set-other (set (set (set flags 0 (n .internal)) 1 (n .lost)) 2 (n .digital)) 3 k (n .analogue) false ne
-
-  three-long : length (set (set (set flags 0 (n .internal)) 1 (n .lost)) 2 (n .digital)) ≡ 12
-  three-long = length-set (set (set flags 0 (n .internal)) 1 (n .lost)) _ _ ∙ length-set (set flags 0 (n .internal)) _ _
-      ∙ length-set flags _ _ ∙ lf
-
   pub node-stored : nodeAt (nodeOctets octets n) (nodeFlags flags n) ≡ n
   node-stored =
       λ t. record {
-        number = three-first octets 0 1 2 (n .number) (stateNumber (n .state)) (n .behaviour) 0 (λ e. omega (arith, e))
-            (λ e. omega (arith, e)) (omega (arith, lo)) t;
+        number = (octet-past 0 (λ e. omega (arith, e))
+            ∙ three-first octets 0 1 2 (n .number) (stateNumber (n .state)) (n .behaviour) 0 (λ e. omega (arith, e))
+            (λ e. omega (arith, e)) (omega (arith, lo))) t;
         state = (ap stateOf state-stored ∙ state-back (n .state)) t;
-        internal = (past 0 (λ e. omega (arith, e))
+        internal = (flag-past 0 (λ e. omega (arith, e))
             ∙ three-first flags 0 1 2 (n .internal) (n .lost) (n .digital) false (λ e. omega (arith, e)) (λ e. omega (arith, e))
             (omega (arith, lf))) t;
-        lost = (past 1 (λ e. omega (arith, e)) ∙ three-second flags 0 1 2 (n .internal) (n .lost) (n .digital) false
+        lost = (flag-past 1 (λ e. omega (arith, e)) ∙ three-second flags 0 1 2 (n .internal) (n .lost) (n .digital) false
             (λ e. omega (arith, e)) (omega (arith, lf))) t;
-        behaviour = three-third octets 0 1 2 (n .number) (stateNumber (n .state)) (n .behaviour) 0 (omega (arith, lo)) t;
-        digital = (past 2 (λ e. omega (arith, e)) ∙ three-third flags 0 1 2 (n .internal) (n .lost) (n .digital) false
+        behaviour = (octet-past 2 (λ e. omega (arith, e))
+            ∙ three-third octets 0 1 2 (n .number) (stateNumber (n .state)) (n .behaviour) 0 (omega (arith, lo))) t;
+        digital = (flag-past 2 (λ e. omega (arith, e)) ∙ three-third flags 0 1 2 (n .internal) (n .lost) (n .digital) false
             (omega (arith, lf))) t;
-        analogue = getD-set-same (set (set (set flags 0 (n .internal)) 1 (n .lost)) 2 (n .digital)) 3 (n .analogue) false
-            (omega (arith, three-long)) t;
+        analogue = fourth-same flags 0 1 2 (n .internal) (n .lost) (n .digital) false 3 (n .analogue) (omega (arith, lf)) t;
+        length = fourth-same octets 0 1 2 (n .number) (stateNumber (n .state)) (n .behaviour) 0 21 (n .length) (omega (arith, lo)) t;
       }
 
   pub node-normal : stateNumber (stateOf (getD (nodeOctets octets n) 1 0)) ≡ getD (nodeOctets octets n) 1 0

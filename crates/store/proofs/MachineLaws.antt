@@ -163,7 +163,7 @@ setting-by : (index v : ℕ) (n : Node) (k : Kind) (o : Own k) (t : Bool) → eq
 setting-by index v n k o true e = same-machine (ap (λ (x : ℕ). writeNode (Device x) v n) (eqb-true index 0x1001 e)) refl
 setting-by index v n k o false e = refl
 
--- 1029:1, 6005 or 6423
+-- 1029:1, 2003:0, 6005 or 6423
 pub setting-wrote : (d r : Parts) (index v : ℕ) → r .node ≡ writeNode (Device index) v (d .node)
     → r .words ≡ d .words → InputsKept d r → OutputsKept d r → MappingsKept d r → Same (machines r) (wrote (Device index) v d)
 setting-wrote d r index v n ls is os ms =

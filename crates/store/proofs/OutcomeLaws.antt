@@ -256,7 +256,7 @@ pub record Sampling (d r : Parts) (digital : List ℕ) (analogue : List ℤ) (sh
   pub edges : Row
   pub reported : Row
   pub loaded : Loaded digital row
-  pub lines : line.Sampled (d .words) row edges (r .words)
+  pub lines : line.Sampled (d .words) (d .node .length) row edges (r .words)
   pub gated : (i : ℕ) → rowAt reported i ≡ (operational (d .node) && d .node .digital) && rowAt edges i
   pub stored : shown ≡ bytes 16 (rowAt reported)
   pub channels : input.AllSampled (operational (d .node) && d .node .analogue) analogue (d .inputs) events (r .inputs)
@@ -267,7 +267,7 @@ module _ {d r : Parts} {digital : List ℕ} {analogue : List ℤ} {shown : List 
   reported-is i h =
       s .gated i
       ∙ ap (λ (b : Bool). (operational (d .node) && d .node .digital) && b)
-      (s .lines .edges i h ∙ ap (λ (b : Bool). edge b (inputAt (d .words) i)) (s .loaded .at i h))
+      (s .lines .edges i h ∙ ap (λ (b : Bool). edge (d .node .length) b (inputAt (d .words) i)) (s .loaded .at i h))
 
   sampled-machines : (events : List ℕ) → ((k : Kind) (i : ℕ) → Takes k i (sample digital analogue events) (machines d k i))
       → Same (machines r) (stepAll (direct (sample digital analogue events)) (machines d))
@@ -275,7 +275,8 @@ module _ {d r : Parts} {digital : List ℕ} {analogue : List ℤ} {shown : List 
   sampled-machines events t =
       by-kind (machines r) (stepAll (direct (sample digital analogue events)) (machines d))
       (same-machine (s .node) refl ∙ sym (sample-step nodeAlone 0 digital analogue events (machines d nodeAlone 0) (t nodeAlone 0)))
-      (λ i h. same-machine (s .node) (s .lines .inputs i h ∙ ap (λ (b : Bool). sampleLine b (inputAt (d .words) i)) (s .loaded .at i h))
+      (λ i h. same-machine (s .node)
+      (s .lines .inputs i h ∙ ap (λ (b : Bool). sampleLine (d .node .length) b (inputAt (d .words) i)) (s .loaded .at i h))
       ∙ sym (sample-step inputLine i digital analogue events (machines d inputLine i) (t inputLine i)))
       (λ i h. same-machine (s .node) (s .lines .outputs i h) ∙ sym
       (sample-step outputLine i digital analogue events (machines d outputLine i) (t outputLine i)))

@@ -41,7 +41,7 @@ use Rattle.store.proofs.KeepLaws.{mappings-kept, same-state}
 -- ---- fresh arrays
 
 abbrev freshOctets : ℕ → List ℕ
-freshOctets number = number ∷ 127 ∷ 0 ∷ 7 ∷ 7 ∷ 7 ∷ 7 ∷ 7 ∷ 7 ∷ 7 ∷ 7 ∷ 7 ∷ 7 ∷ 7 ∷ 7 ∷ 7 ∷ 7 ∷ 7 ∷ 7 ∷ 0 ∷ 0 ∷ []
+freshOctets number = number ∷ 127 ∷ 0 ∷ 7 ∷ 7 ∷ 7 ∷ 7 ∷ 7 ∷ 7 ∷ 7 ∷ 7 ∷ 7 ∷ 7 ∷ 7 ∷ 7 ∷ 7 ∷ 7 ∷ 7 ∷ 7 ∷ 0 ∷ 0 ∷ 3 ∷ []
 
 abbrev freshFlags : List Bool
 freshFlags = false ∷ false ∷ true ∷ false ∷ true ∷ true ∷ true ∷ true ∷ true ∷ true ∷ true ∷ true ∷ []
@@ -110,13 +110,13 @@ module _ (octets : List ℕ) (flags : List Bool) (words : List ℕ) (limits : Li
 
   -- ---- the node stored, and every output moved
 
-  module _ (n : Node) (lo : length octets ≡ 21) (lf : length flags ≡ 12) where
+  module _ (n : Node) (lo : length octets ≡ 22) (lf : length flags ≡ 12) where
     inputs-past : (deltas′ : List ℕ) (values′ : List ℤ) → ((k : ℕ) → k < 48 → getD deltas′ k 0 ≡ getD deltas k 0)
         → ((k : ℕ) → k < 32 → getD values′ k (pos 0) ≡ getD values k (pos 0)) → (i : ℕ) → i < 16
         → inputAt (nodeOctets octets n) limits deltas′ values′ i ≡ inputAt octets limits deltas values i
     inputs-past deltas′ values′ d v =
         inputs-kept octets (nodeOctets octets n) limits deltas deltas′ values values′
-        (λ k h. node-octets octets flags n lo lf .high k h) d v
+        (node-octets octets flags n lo lf) d v
 
     outputs-past : (i : ℕ) → i < 8 → outputAt (nodeFlags flags n) values i ≡ outputAt flags values i
     outputs-past = outputs-kept flags (nodeFlags flags n) values values (λ k h. node-flags octets flags n lo lf .high k h) (λ k h. refl)
@@ -171,7 +171,8 @@ module _ (octets : List ℕ) (flags : List Bool) (words : List ℕ) (limits : Li
       record {
         machines =
             input-wrote (partsOf start) (partsOf (held octets′ flags words limits′ deltas′ values))
-            (node-kept octets octets′ flags flags (λ k h. s .octets-kept .low k h) (λ k h. refl)) refl index n v (s .written) (λ i h. refl)
+            (node-kept octets octets′ flags flags (s .octets-kept .low) (s .octets-kept .high 21 (omega arith)) (λ k h. refl)) refl
+            index n v (s .written) (λ i h. refl)
             (mappings-kept deltas deltas′ (s .deltas-kept .high));
         normal = same-state start (held octets′ flags words limits′ deltas′ values) (s .octets-kept .low 1 (omega arith));
       }
@@ -183,8 +184,8 @@ module _ (octets : List ℕ) (flags : List Bool) (words : List ℕ) (limits : Li
       record {
         machines =
             output-wrote (partsOf start) (partsOf (held octets flags′ words limits deltas values′))
-            (node-kept octets octets flags flags′ (λ k h. refl) (λ k h. s .flags-kept .low k h)) refl index n v (s .written)
-            (inputs-kept octets octets limits deltas deltas values values′ (λ k h. refl) (λ k h. refl) (λ k h. s .values-kept .low k h))
+            (node-kept octets octets flags flags′ (λ k h. refl) refl (λ k h. s .flags-kept .low k h)) refl index n v (s .written)
+            (inputs-kept octets octets limits deltas deltas values values′ (λ k h l. refl) (λ k h. refl) (λ k h. s .values-kept .low k h))
             (λ i h. refl);
         normal = same-state start (held octets flags′ words limits deltas values′) refl;
       }
@@ -195,7 +196,7 @@ module _ (octets : List ℕ) (flags : List Bool) (words : List ℕ) (limits : Li
       record {
         machines =
             mapping-wrote (partsOf start) (partsOf (held octets flags words limits deltas′ values)) refl refl m sub v
-            (inputs-kept octets octets limits deltas deltas′ values values (λ k h. refl) (s .deltas-kept .low) (λ k h. refl))
+            (inputs-kept octets octets limits deltas deltas′ values values (λ k h l. refl) (s .deltas-kept .low) (λ k h. refl))
             (λ i h. refl) (s .mappings);
         normal = same-state start (held octets flags words limits deltas′ values) refl;
       }
@@ -224,7 +225,8 @@ module _ (octets : List ℕ) (flags : List Bool) (words : List ℕ) (limits : Li
         record {
           machines =
               read-cleared (partsOf start) (partsOf read-left) e
-              (node-kept octets octets′ flags flags (λ k l. c .octets-kept .low k (omega (arith, l))) (λ k l. refl)) refl (λ k l. refl)
+              (node-kept octets octets′ flags flags (λ k l. c .octets-kept .low k (omega (arith, l)))
+              (c .octets-kept .high 21 (omega arith)) (λ k l. refl)) refl (λ k l. refl)
               (λ k l. refl) h v
               (sources-taken octets octets′ limits deltas values values v (sources-in e v ev h) c);
           normal = same-state start read-left (c .octets-kept .low 1 (omega arith));

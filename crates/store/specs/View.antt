@@ -1,5 +1,6 @@
 -- The six arrays of a device, and the machines that they hold.
--- octets: node number, state, 1029:1, then the channels'. flags: internal failure, communication loss, 6005, 6423, then the channels'.
+-- octets: node number, state, 1029:1, then the channels', then 2003. flags: internal failure, communication loss, 6005, 6423, then the
+-- channels'.
 -- Assumes nothing.
 use mathlib.Core.Path.{_≡_}
 use mathlib.Core.Bool.{Bool, false, cond}
@@ -41,11 +42,12 @@ nodeAt octets flags =
       behaviour = getD octets 2 0;
       digital = getD flags 2 false;
       analogue = getD flags 3 false;
+      length = getD octets 21 0;
     }
 
 -- the node stored
 abbrev pub nodeOctets : List ℕ → Node → List ℕ
-nodeOctets octets n = set (set (set octets 0 (n .number)) 1 (stateNumber (n .state))) 2 (n .behaviour)
+nodeOctets octets n = set (set (set (set octets 0 (n .number)) 1 (stateNumber (n .state))) 2 (n .behaviour)) 21 (n .length)
 
 abbrev pub nodeFlags : List Bool → Node → List Bool
 nodeFlags flags n = set (set (set (set flags 0 (n .internal)) 1 (n .lost)) 2 (n .digital)) 3 (n .analogue)
@@ -103,9 +105,9 @@ held octets flags words limits deltas values =
 
 -- the lengths of the six
 pub record Sized (d : Store) : Type 0 where
-  pub octets : length (d .octets) ≡ 21
+  pub octets : length (d .octets) ≡ 22
   pub flags : length (d .flags) ≡ 12
-  pub words : length (d .words) ≡ 28
+  pub words : length (d .words) ≡ 40
   pub limits : length (d .limits) ≡ 32
   pub deltas : length (d .deltas) ≡ 120
   pub values : length (d .values) ≡ 56

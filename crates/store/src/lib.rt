@@ -30,6 +30,9 @@ const STATE: usize = 1;
 
 const BEHAVIOUR: usize = 2;
 
+// Past the octets of the channels.
+const LENGTH: usize = 21;
+
 // In flags.
 const INTERNAL: usize = 0;
 
@@ -82,6 +85,7 @@ pub fn node_at(octets: &Octets, flags: &Flags) -> Node
         behaviour: octets[BEHAVIOUR],
         digital: flags[DIGITAL],
         analogue: flags[ANALOGUE],
+        length: octets[LENGTH],
     }
 }
 
@@ -94,6 +98,7 @@ pub fn set_node(octets: &mut Octets, flags: &mut Flags, new: Node)
     octets[NUMBER] = new.number;
     octets[STATE] = number;
     octets[BEHAVIOUR] = new.behaviour;
+    octets[LENGTH] = new.length;
     flags[INTERNAL] = new.internal;
     flags[LOST] = new.lost;
     flags[DIGITAL] = new.digital;
@@ -121,8 +126,9 @@ pub fn set_fresh(
     let node = fresh(number);
     set_node(octets, flags, node);
     set_modes(flags);
+    lend(octets, flags, words, values);
     machines::fresh(words);
-    // The deltas in three parts, each between others: as one they would be a call of memset.
+    // The deltas in three parts with other stores between them: one fill of more than 256 bytes is compiled to a call of memset.
     lend_settings(limits, deltas);
     zero_deltas(deltas, 0, MAPPINGS);
     *limits = [0; LIMITS];

@@ -7,18 +7,18 @@ use Prim.Native.Nat.{ℕ, _+_, _-_, _*_, _/_, _%_, _^_, _≤_, _<_}
 use native.Mathlib.Nat.{mod-lt, zero-lt-suc, lt-of-lt-of-le}
 use native.Mathlib.Omega.{arith}
 use lib.Pow.{pow-mono}
-use lib.Dec.{eqb, ltb}
+use lib.Dec.{eqb, ltb, leb}
 use lib.ListN.{length, getD, set, length-set}
 use lib.Seq.{getD-set-same, getD-set-other}
 use lib.Bits.{bitAnd, bitOr}
-use borrow.Author.Tests.{lt-ltb, le-ltb, ltb-true, ltb-false, eqb-true, eqb-false}
+use borrow.Author.Tests.{lt-ltb, le-ltb, ltb-true, ltb-false, leb-true, leb-false, eqb-true, eqb-false}
 use Rattle.profile.specs.Bits.{bitAt}
 use Rattle.profile.specs.Entries.{inside, bitOf}
 use Rattle.profile.proofs.BitLaws.{bit-and, bit-or, bit-not, bit-ones, bit-zero}
 use Rattle.windows.specs.declared.Row.{Row}
-use Rattle.windows.specs.View.{lineAt, rowAt, window}
-use Rattle.windows.specs.Promises.{Lined, written, masked, rowSet, RowOf, Joins, Picks}
-use Rattle.windows.proofs.WindowLaws.{window-bit, window-small, bit-low}
+use Rattle.windows.specs.View.{lineAt, rowAt, isEmpty, window}
+use Rattle.windows.specs.Promises.{Lined, written, masked, rowSet, cleared, RowOf, Joins, Picks}
+use Rattle.windows.proofs.WindowLaws.{both, window-bit, window-small, bit-low}
 
 -- ---- operations on whole rows
 
@@ -88,6 +88,14 @@ pub no-line : (i : ℕ) → rowAt none i ≡ false
 unfolding rowAt
 no-line i = same (ltb i 64) (bitAt 0 (i % 64)) ∙ bit-zero (i % 64)
 
+pub empty-line : (r : Row) → isEmpty r ≡ true → (i : ℕ) → rowAt r i ≡ false
+unfolding rowAt
+empty-line r e i =
+    let zero = both (eqb (r .low) 0) (eqb (r .high) 0) e in
+    ap₂ (λ (l h : ℕ). cond (ltb i 64) (bitAt l (i % 64)) (bitAt h (i % 64))) (eqb-true (r .low) 0 (zero .0))
+    (eqb-true (r .high) 0 (zero .1))
+    ∙ no-line i
+
 -- ---- a row of the device
 
 row-by : (words : List ℕ) (a i : ℕ) (t : Bool) → i < 128 → ltb i 64 ≡ t
@@ -113,7 +121,7 @@ word-write words n x a i false h e =
     ap (λ (y : ℕ). bitAt y (i % 64)) (getD-set-other words n _ x 0 (eqb-false (2 * a + i / 64) n e))
 
 -- two words stored at 2a and 2a + 1, by three tests
-set-by : (words : List ℕ) (r : Row) (a a′ i : ℕ) (t u v : Bool) → a < 14 → i < 128
+set-by : (words : List ℕ) (r : Row) (a a′ i : ℕ) (t u v : Bool) → a < 20 → i < 128
     → eqb (2 * a′ + i / 64) (2 * a + 1) ≡ t → eqb (2 * a′ + i / 64) (2 * a) ≡ u → eqb a′ a ≡ v
     → cond t (bitAt (r .high) (i % 64)) (cond u (bitAt (r .low) (i % 64)) (lineAt words a′ i))
     ≡ cond v (cond (ltb i 64) (bitAt (r .low) (i % 64)) (bitAt (r .high) (i % 64))) (lineAt words a′ i)
@@ -138,7 +146,7 @@ set-by words r a a′ i false false true ha hi ht hu hv =
     absurd (omega arith)
 set-by words r a a′ i false false false ha hi ht hu hv = refl
 
-pub row-write : (words : List ℕ) (a : ℕ) (r : Row) → length words ≡ 28 → a < 14
+pub row-write : (words : List ℕ) (a : ℕ) (r : Row) → length words ≡ 40 → a < 20
     → Lined (set (set words (2 * a) (r .low)) (2 * a + 1) (r .high)) (rowSet words a r)
 unfolding rowSet rowAt
 row-write words a r len ha =
@@ -150,6 +158,41 @@ row-write words a r len ha =
           ∙ ap (cond (eqb (2 * a′ + i / 64) (2 * a + 1)) (bitAt (r .high) (i % 64)))
           (word-write words (2 * a) (r .low) a′ i (eqb (2 * a′ + i / 64) (2 * a)) (omega arith) refl)
           ∙ set-by words r a a′ i (eqb (2 * a′ + i / 64) (2 * a + 1)) (eqb (2 * a′ + i / 64) (2 * a)) (eqb a′ a) ha hi refl refl refl;
+    }
+
+-- ---- rows that become 0
+
+pub clearing-none : (words : List ℕ) (from : ℕ) → length words ≡ 40 → Lined words (cleared words from from)
+unfolding cleared
+clearing-none words from len = record { count = len; lines = λ a i ha hi. by a i (leb from a) (ltb a from) refl refl }
+  where
+    by : (a i : ℕ) (t u : Bool) → leb from a ≡ t → ltb a from ≡ u → lineAt words a i ≡ cond (t && u) false (lineAt words a i)
+    by a i true true et eu = absurd (omega (arith, leb-true from a et, ltb-true a from eu))
+    by a i true false et eu = refl
+    by a i false u et eu = refl
+
+clear-by : (from b a : ℕ) (x t u v w : Bool) → from ≤ b → eqb a b ≡ t → leb from a ≡ u → ltb a b ≡ v → ltb a (b + 1) ≡ w
+    → cond t false (cond (u && v) false x) ≡ cond (u && w) false x
+clear-by from b a x true true v true h et eu ev ew = refl
+clear-by from b a x true true v false h et eu ev ew = absurd (omega (arith, eqb-true a b et, ltb-false a (b + 1) ew))
+clear-by from b a x true false v w h et eu ev ew = absurd (omega (arith, eqb-true a b et, leb-false from a eu))
+clear-by from b a x false true true true h et eu ev ew = refl
+clear-by from b a x false true true false h et eu ev ew = absurd (omega (arith, ltb-true a b ev, ltb-false a (b + 1) ew))
+clear-by from b a x false true false true h et eu ev ew =
+    absurd (eqb-false a b et (omega (arith, ltb-false a b ev, ltb-true a (b + 1) ew)))
+clear-by from b a x false true false false h et eu ev ew = refl
+clear-by from b a x false false v w h et eu ev ew = refl
+
+pub clearing-more : (words : List ℕ) (from b : ℕ) {now out : List ℕ} → from ≤ b → Lined now (cleared words from b)
+    → Lined out (rowSet now b none) → Lined out (cleared words from (b + 1))
+unfolding cleared rowSet
+clearing-more words from b h c o =
+    record {
+      count = o .count;
+      lines = λ a i ha hi.
+          o .lines a i ha hi
+          ∙ ap₂ (cond (eqb a b)) (no-line i) (c .lines a i ha hi)
+          ∙ clear-by from b a (lineAt words a i) (eqb a b) (leb from a) (ltb a b) (ltb a (b + 1)) h refl refl refl refl;
     }
 
 -- ---- a masked write through a window

@@ -21,9 +21,9 @@ use Rattle.profile.proofs.BitLaws.{gather-bit, gather-bits, gather-cong, gather
 use Rattle.windows.specs.View.{lineAt, window}
 use Rattle.windows.specs.Promises.{Covers, Lined, written}
 
--- what an array of 28 words of 64 bits is, as a list
+-- what an array of 40 words of 64 bits is, as a list
 pub record Held (words : List ℕ) : Type 0 where
-  pub count : length words ≡ 28
+  pub count : length words ≡ 40
   pub each : (n : ℕ) → Fits w64 (getD words n 0)
 
 -- ---- where a window lies
@@ -51,7 +51,7 @@ pub record Bounds (a w s : ℕ) : Type 0 where
   pub below : firstLine w s + w ≤ 128
   pub some : 1 ≤ w
   pub narrow : w ≤ 32
-  pub row : a < 14
+  pub row : a < 20
 
 some-width : (w q : ℕ) → w * q ≡ 64 → 1 ≤ w
 some-width zero q e = absurd (omega arith)
@@ -191,7 +191,7 @@ elsewhere {a} {w} {s} a′ i true true p ne ht hu =
 elsewhere a′ i true false p ne ht hu = refl
 elsewhere a′ i false u p ne ht hu = refl
 
-module _ (words : List ℕ) (a w s v : ℕ) (c : Covers a w s) (hv : v < 2 ^ w) (count : length words ≡ 28) where
+module _ (words : List ℕ) (a w s v : ℕ) (c : Covers a w s) (hv : v < 2 ^ w) (count : length words ≡ 40) where
   write-by : (a′ i : ℕ) (t : Bool) → i < 128 → eqb (2 * a′ + i / 64) (2 * a + firstLine w s / 64) ≡ t
       → lineAt
       (set words (2 * a + firstLine w s / 64) (patched (getD words (2 * a + firstLine w s / 64) 0) v w (firstLine w s % 64)))

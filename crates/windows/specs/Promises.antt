@@ -1,10 +1,10 @@
 -- What the functions on rows and windows promise.
 -- Assumes nothing.
 use mathlib.Core.Path.{_≡_}
-use mathlib.Core.Bool.{Bool, cond, _&&_}
+use mathlib.Core.Bool.{Bool, false, cond, _&&_}
 use mathlib.Core.List.{List}
 use Prim.Native.Nat.{ℕ, _*_, _/_, _≤_, _<_}
-use lib.Dec.{eqb}
+use lib.Dec.{eqb, ltb, leb}
 use lib.ListN.{length}
 use Rattle.profile.specs.Bits.{bitAt}
 use Rattle.profile.specs.Bytes.{lineBit}
@@ -19,15 +19,15 @@ pub record Width (w : ℕ) : Type 0 where
 
 -- the window (w, s) of row a is one of the device
 pub record Covers (a w s : ℕ) : Type 0 where
-  pub row : a < 14
+  pub row : a < 20
   pub width : Width w
   pub first : 1 ≤ s
   pub last : w * s ≤ 128
 
--- fourteen rows, and line i of row a′ is f a′ i
+-- twenty rows, and line i of row a′ is f a′ i
 pub record Lined (words : List ℕ) (f : ℕ → ℕ → Bool) : Type 0 where
-  pub count : length words ≡ 28
-  pub lines : (a i : ℕ) → a < 14 → i < 128 → lineAt words a i ≡ f a i
+  pub count : length words ≡ 40
+  pub lines : (a i : ℕ) → a < 20 → i < 128 → lineAt words a i ≡ f a i
 
 -- line i of row a′ after v is written through the window (w, s) of row a
 unfoldable pub written : List ℕ → ℕ → ℕ → ℕ → ℕ → ℕ → ℕ → Bool
@@ -40,6 +40,10 @@ masked words a m w s v a′ i = cond (eqb a′ a && inside w s i && lineAt words
 -- line i of row a′ after row a is set
 unfoldable pub rowSet : List ℕ → ℕ → Row → ℕ → ℕ → Bool
 rowSet words a r a′ i = cond (eqb a′ a) (rowAt r i) (lineAt words a′ i)
+
+-- line i of row a′ after the rows from `from` up to `to` became 0, the last left out
+unfoldable pub cleared : List ℕ → ℕ → ℕ → ℕ → ℕ → Bool
+cleared words from to a′ i = cond (leb from a′ && ltb a′ to) false (lineAt words a′ i)
 
 -- r is row a
 pub record RowOf (words : List ℕ) (a : ℕ) (r : Row) : Type 0 where

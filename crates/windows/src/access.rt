@@ -3,10 +3,10 @@ use crate::Row;
 use crate::Words;
 ghost use mathlib.Core.Path.{_≡_};
 ghost use lib.ListN.{length};
-ghost use Prim.Native.Nat.{_+_, _*_, _/_, _%_, _^_, _<_};
+ghost use Prim.Native.Nat.{_+_, _*_, _/_, _%_, _^_, _≤_, _<_};
 ghost use Rattle.profile.specs.Entries.{firstLine};
 ghost use Rattle.windows.specs.View.{window};
-ghost use Rattle.windows.specs.Promises.{Covers, Lined, written, masked, rowSet, RowOf};
+ghost use Rattle.windows.specs.Promises.{Covers, Lined, written, masked, rowSet, cleared, RowOf};
 
 // Where a window lies: the index of its word, and its lowest bit in it.
 struct Place {
@@ -40,7 +40,7 @@ pub fn get(words: &Words, row: usize, width: usize, sub: usize) -> u32
 
 // A window's value is replaced.
 pub fn put(words: &mut Words, row: usize, width: usize, sub: usize, value: u32)
-    requires { ⌜ length (now words) ≡ 28 ⌝ }
+    requires { ⌜ length (now words) ≡ 40 ⌝ }
     requires { ⌜ Covers row width sub ⌝ }
     requires { ⌜ value < 2 ^ width ⌝ }
     ensures { λ _. ⌜ Lined (now (words .exit)) (written (now (words .entry)) row width sub value) ⌝ }
@@ -54,9 +54,9 @@ pub fn put(words: &mut Words, row: usize, width: usize, sub: usize, value: u32)
 
 // The same where the line of the row `gate` is 1.
 pub fn put_masked(words: &mut Words, row: usize, gate: usize, width: usize, sub: usize, value: u32)
-    requires { ⌜ length (now words) ≡ 28 ⌝ }
+    requires { ⌜ length (now words) ≡ 40 ⌝ }
     requires { ⌜ Covers row width sub ⌝ }
-    requires { ⌜ gate < 14 ⌝ }
+    requires { ⌜ gate < 20 ⌝ }
     requires { ⌜ value < 2 ^ width ⌝ }
     ensures { λ _. ⌜ Lined (now (words .exit)) (masked (now (words .entry)) row gate width sub value) ⌝ }
 {
@@ -67,7 +67,7 @@ pub fn put_masked(words: &mut Words, row: usize, gate: usize, width: usize, sub:
 
 // A whole row.
 pub fn row(words: &Words, a: usize) -> Row
-    requires { ⌜ a < 14 ⌝ }
+    requires { ⌜ a < 20 ⌝ }
     ensures { λ r. ⌜ RowOf (now (words .entry)) a r ⌝ }
 {
     let at = 2 * a;
@@ -79,11 +79,24 @@ pub fn row(words: &Words, a: usize) -> Row
 
 // A whole row is replaced.
 pub fn set_row(words: &mut Words, a: usize, new: Row)
-    requires { ⌜ length (now words) ≡ 28 ⌝ }
-    requires { ⌜ a < 14 ⌝ }
+    requires { ⌜ length (now words) ≡ 40 ⌝ }
+    requires { ⌜ a < 20 ⌝ }
     ensures { λ _. ⌜ Lined (now (words .exit)) (rowSet (now (words .entry)) a new) ⌝ }
 {
     let at = 2 * a;
     words[at] = new.low;
     words[at + 1] = new.high;
+}
+
+// The rows from `from` up to `to` become 0, the last left out.
+pub fn clear_rows(words: &mut Words, from: usize, to: usize)
+    requires { ⌜ length (now words) ≡ 40 ⌝ }
+    requires { ⌜ (from ≤ to) × (to ≤ 20) ⌝ }
+    ensures { λ _. ⌜ Lined (now (words .exit)) (cleared (now (words .entry)) from to) ⌝ }
+{
+    let mut a = from;
+    while a < to {
+        set_row(words, a, Row { low: 0, high: 0 });
+        a += 1;
+    }
 }

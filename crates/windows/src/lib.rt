@@ -1,4 +1,4 @@
-// Fourteen rows of 128 lines, bit-parallel in words of 64 bits, two words each, in an array that the caller lends.
+// Twenty rows of 128 lines, bit-parallel in words of 64 bits, two words each, in an array that the caller lends.
 
 // Windows on the rows, and whole rows.
 pub mod access;
@@ -6,7 +6,7 @@ pub mod access;
 pub mod rows;
 
 // How many words the rows take.
-pub const WORDS: usize = 28;
+pub const WORDS: usize = 40;
 
 // The array that the device lends.
 pub type Words = [u64; WORDS];

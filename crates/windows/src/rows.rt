@@ -5,7 +5,7 @@ ghost use mathlib.Core.Bool.{_&&_, _||_};
 ghost use lib.ListN.{length};
 ghost use Rattle.profile.specs.Bits.{bitAt, flip, gather};
 ghost use Rattle.profile.specs.Bytes.{bytes, lineBit};
-ghost use Rattle.windows.specs.View.{rowAt};
+ghost use Rattle.windows.specs.View.{rowAt, isEmpty};
 ghost use Rattle.windows.specs.Promises.{Joins, Picks, Loaded};
 
 impl Row {
@@ -44,6 +44,13 @@ impl Row {
             low: (b.low & !self.low) | (a.low & self.low),
             high: (b.high & !self.high) | (a.high & self.high),
         }
+    }
+
+    // No line is 1.
+    pub fn is_empty(self) -> bool
+        ensures { λ r. ⌜ r ≡ isEmpty self ⌝ }
+    {
+        (self.low == 0) & (self.high == 0)
     }
 
     // The row that sixteen bytes hold.

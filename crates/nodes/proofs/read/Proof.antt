@@ -38,10 +38,22 @@ cast-result-3 c = search needs
 returns-4 : tie.Need-returns-4
 unfolding readNode
 returns-4 c = simp (
-  ne-eqb _ _ (c .before .if3 .left),
-  ne-eqb _ _ (c .before .before .if2 .left),
-  ne-eqb _ _
-      (c .before .before .before .if1 .left),
+  eq-eqb _ _ (c .before .if4 .taken),
+  ne-eqb _ _ (c .before .before .if3 .left),
+  ne-eqb _ _ (c .before .before .before .if2 .left),
+  ne-eqb _ _ (c .before .before .before .before .if1 .left),
+)
+
+cast-result-4 : tie.Need-cast-result-4
+cast-result-4 c = search needs
+
+returns-5 : tie.Need-returns-5
+unfolding readNode
+returns-5 c = simp (
+  ne-eqb _ _ (c .before .if4 .left),
+  ne-eqb _ _ (c .before .before .if3 .left),
+  ne-eqb _ _ (c .before .before .before .if2 .left),
+  ne-eqb _ _ (c .before .before .before .before .if1 .left),
 )
 
 pub read-spec : {M : Type 1} → statement M
@@ -55,4 +67,6 @@ read-spec =
     cast-result-2
     returns-3
     cast-result-3
-    returns-4)
+    returns-4
+    cast-result-4
+    returns-5)

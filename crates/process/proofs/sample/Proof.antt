@@ -88,14 +88,15 @@ returns-2 c =
     let e = held (l .0) flags (at-sample .sample .last .0) (now (a .limits)) (now (a .deltas)) (l .1 .1 .1 .0) in
     let met = rw (at-is-operational .is-operational .ensures, at-node-at .node-at .ensures) at (c .sample-all .ensures) in
     let s : Sampling (partsOf d) (partsOf e) (now (a .digital)) (now (a .analogue)) _ _ = record {
-      node = node-kept octets (l .0) flags flags (λ k h. met .octets-kept .low k (omega (arith, h))) (λ k h. refl);
+      node = node-kept octets (l .0) flags flags (λ k h. met .octets-kept .low k (omega (arith, h)))
+          (met .octets-kept .high 21 (omega arith)) (λ k h. refl);
       outputs = outputs-kept flags flags values (l .1 .1 .1 .0) (λ k h. refl) (λ k h. met .values-kept .high k h);
       mappings = λ i h. refl;
       row = at-load .load .result;
       edges = at-sample .sample .result;
       reported = at-reported .reported .result;
       loaded = at-load .load .ensures;
-      lines = at-sample .sample .ensures;
+      lines = rw (at-node-at .node-at .ensures) at (at-sample .sample .ensures);
       gated = λ i. (rw (at-is-operational .is-operational .ensures, at-node-at .node-at .ensures) at
           (at-reported .reported .ensures)) .at i;
       stored = at-store .store .ensures;

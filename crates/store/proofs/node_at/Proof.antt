@@ -31,9 +31,12 @@ element-copy-out-t21 c = search needs
 element-copy-out-t24 : tie.Need-element-copy-out-t24
 element-copy-out-t24 c = search needs
 
+element-copy-out-t27 : tie.Need-element-copy-out-t27
+element-copy-out-t27 c = search needs
+
 returns : tie.Need-returns
 returns c =
-    let at-state-of = c .before .before .before .before .before .before in
+    let at-state-of = c .before .before .before .before .before .before .before in
     let at-args = at-state-of .before .before in
     let octets = now (at-args .args .octets) in
     let flags = now (at-args .args .flags) in
@@ -45,6 +48,7 @@ returns c =
       behaviour = getD octets 2 0;
       digital = getD flags 2 false;
       analogue = getD flags 3 false;
+      length = getD octets 21 0;
     }
 
 pub node-at-spec : {M : Type 1} → statement M
@@ -59,4 +63,5 @@ node-at-spec =
     element-copy-out-t18
     element-copy-out-t21
     element-copy-out-t24
+    element-copy-out-t27
     returns)

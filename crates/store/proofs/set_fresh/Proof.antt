@@ -19,6 +19,9 @@ set-node-requires c κs = search needs
 set-modes-requires : tie.Need-set-modes-requires
 set-modes-requires c κs = search needs
 
+lend-requires : tie.Need-lend-requires
+lend-requires c κs = search needs
+
 fresh-requires-2 : tie.Need-fresh-requires-2
 fresh-requires-2 c κs = search needs
 
@@ -40,7 +43,8 @@ returns c =
     let at-zero-deltas = at-empty-received .before .before .before in
     let at-lend-settings-arg4 = at-zero-deltas .before .before .before in
     let at-fresh2 = at-lend-settings-arg4 .before .before .before .before in
-    let at-set-modes = at-fresh2 .before .before in
+    let at-lend = at-fresh2 .before .before in
+    let at-set-modes = at-lend .before .before .before .before .before .before .before .before .before in
     let at-set-node = at-set-modes .before .before in
     let at-fresh = at-set-node .before .before .before in
     let at-set-sources = at-fresh .before .before in
@@ -60,6 +64,7 @@ set-fresh-spec =
     fresh-requires
     set-node-requires
     set-modes-requires
+    lend-requires
     fresh-requires-2
     lend-settings-requires
     zero-deltas-requires

@@ -20,6 +20,9 @@ element-write-octets-2 c = search needs
 element-write-octets-3 : tie.Need-element-write-octets-3
 element-write-octets-3 c = search needs
 
+element-write-octets-4 : tie.Need-element-write-octets-4
+element-write-octets-4 c = search needs
+
 element-write-flags : tie.Need-element-write-flags
 element-write-flags c = search needs
 
@@ -35,8 +38,11 @@ element-write-flags-4 c = search needs
 returns : tie.Need-returns
 returns c =
     let a = c .before .args in
-    let new = a .new in
-    (ap (λ (s : ℕ). set (set (set (now (a .octets)) 0 (new .number)) 1 s) 2 (new .behaviour)) (c .state-number .ensures), refl)
+    let new = a .new in (
+      ap (λ (s : ℕ). set (set (set (set (now (a .octets)) 0 (new .number)) 1 s) 2 (new .behaviour)) 21 (new .length))
+          (c .state-number .ensures),
+      refl,
+    )
 
 pub set-node-spec : {M : Type 1} → statement M
 set-node-spec =
@@ -46,6 +52,7 @@ set-node-spec =
     element-write-octets
     element-write-octets-2
     element-write-octets-3
+    element-write-octets-4
     element-write-flags
     element-write-flags-2
     element-write-flags-3

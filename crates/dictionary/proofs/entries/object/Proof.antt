@@ -23,20 +23,20 @@ setting-requires c κs = search needs
 setting-requires-2 : tie.Need-setting-requires-2
 setting-requires-2 c κs = search needs
 
-reading-requires-3 : tie.Need-reading-requires-3
-reading-requires-3 c κs = search needs
-
 setting-requires-3 : tie.Need-setting-requires-3
 setting-requires-3 c κs = search needs
+
+reading-requires-3 : tie.Need-reading-requires-3
+reading-requires-3 c κs = search needs
 
 setting-requires-4 : tie.Need-setting-requires-4
 setting-requires-4 c κs = search needs
 
-reading-requires-4 : tie.Need-reading-requires-4
-reading-requires-4 c κs = search needs
-
 setting-requires-5 : tie.Need-setting-requires-5
 setting-requires-5 c κs = search needs
+
+reading-requires-4 : tie.Need-reading-requires-4
+reading-requires-4 c κs = search needs
 
 setting-requires-6 : tie.Need-setting-requires-6
 setting-requires-6 c κs = search needs
@@ -55,6 +55,9 @@ setting-requires-10 c κs = search needs
 
 setting-requires-11 : tie.Need-setting-requires-11
 setting-requires-11 c κs = search needs
+
+setting-requires-12 : tie.Need-setting-requires-12
+setting-requires-12 c κs = search needs
 
 short-requires : tie.Need-short-requires
 short-requires c κs = search needs
@@ -80,11 +83,11 @@ returns-4 c = c .setting2 .ensures ∙ rw (c .before .match .keys4) refl
 
 returns-5 : tie.Need-returns-5
 unfolding objectOf
-returns-5 c = c .reading3 .ensures ∙ rw (c .before .before .channel-of .ensures, c .before .match .keys5) refl
+returns-5 c = c .setting3 .ensures ∙ rw (c .before .match .keys5) refl
 
 returns-6 : tie.Need-returns-6
 unfolding objectOf
-returns-6 c = c .setting3 .ensures ∙ rw (c .before .before .channel-of .ensures, c .before .match .keys6) refl
+returns-6 c = c .reading3 .ensures ∙ rw (c .before .before .channel-of .ensures, c .before .match .keys6) refl
 
 returns-7 : tie.Need-returns-7
 unfolding objectOf
@@ -92,15 +95,15 @@ returns-7 c = c .setting4 .ensures ∙ rw (c .before .before .channel-of .ensure
 
 returns-8 : tie.Need-returns-8
 unfolding objectOf
-returns-8 c = c .reading4 .ensures ∙ rw (c .before .match .keys8) refl
+returns-8 c = c .setting5 .ensures ∙ rw (c .before .before .channel-of .ensures, c .before .match .keys8) refl
 
 returns-9 : tie.Need-returns-9
 unfolding objectOf
-returns-9 c = c .setting5 .ensures ∙ rw (c .before .match .keys9) refl
+returns-9 c = c .reading4 .ensures ∙ rw (c .before .match .keys9) refl
 
 returns-10 : tie.Need-returns-10
 unfolding objectOf
-returns-10 c = c .setting6 .ensures ∙ rw (c .before .before .channel-of .ensures, c .before .match .keys10) refl
+returns-10 c = c .setting6 .ensures ∙ rw (c .before .match .keys10) refl
 
 returns-11 : tie.Need-returns-11
 unfolding objectOf
@@ -124,11 +127,15 @@ returns-15 c = c .setting11 .ensures ∙ rw (c .before .before .channel-of .ensu
 
 returns-16 : tie.Need-returns-16
 unfolding objectOf
-returns-16 c = c .short .ensures ∙ rw (c .before .before .channel-of .ensures, c .before .match .keys16) refl
+returns-16 c = c .setting12 .ensures ∙ rw (c .before .before .channel-of .ensures, c .before .match .keys16) refl
 
 returns-17 : tie.Need-returns-17
 unfolding objectOf
-returns-17 c =
+returns-17 c = c .short .ensures ∙ rw (c .before .before .channel-of .ensures, c .before .match .keys17) refl
+
+returns-18 : tie.Need-returns-18
+unfolding objectOf
+returns-18 c =
     let at-args = c .before .before .before in
     let sub = at-args .args .sub in
     c .mapping-object .ensures
@@ -143,17 +150,18 @@ object-spec =
     reading-requires-2
     setting-requires
     setting-requires-2
-    reading-requires-3
     setting-requires-3
+    reading-requires-3
     setting-requires-4
-    reading-requires-4
     setting-requires-5
+    reading-requires-4
     setting-requires-6
     setting-requires-7
     setting-requires-8
     setting-requires-9
     setting-requires-10
     setting-requires-11
+    setting-requires-12
     short-requires
     mapping-object-requires
     returns
@@ -172,4 +180,5 @@ object-spec =
     returns-14
     returns-15
     returns-16
-    returns-17)
+    returns-17
+    returns-18)
