@@ -10,6 +10,7 @@ use lib.Dec.{ltb, eqb}
 use lib.IntN.{ℤ, pos, negsuc, _-ℤ_, natAbs}
 use lib.Signed.{mag, ltZ}
 use borrow.Author.Tests.{lt-ltb, le-ltb, eqb-true}
+use Rattle.profile.proofs.BoolLaws.{both}
 use Rattle.profile.specs.declared.AnalogueInput.{AnalogueInput}
 use Rattle.profile.specs.Bits.{bitAt}
 use Rattle.profile.specs.AnalogueInput.{eqZ, meets}
@@ -124,10 +125,6 @@ equal (pos a) (pos b) e = ap pos (eqb-true a b e)
 equal (pos a) (negsuc b) e = absurd (false≢true e)
 equal (negsuc a) (pos b) e = absurd (false≢true e)
 equal (negsuc a) (negsuc b) e = ap negsuc (eqb-true a b e)
-
-both : (a b : Bool) → a && b ≡ true → (a ≡ true) × (b ≡ true)
-both true b e = (refl, e)
-both false b e = absurd (false≢true e)
 
 module _ (m : AnalogueInput) (x : ℤ) (fx : mag x < 32768) (e : still x m ≡ true) where
   last-is : x ≡ m .last

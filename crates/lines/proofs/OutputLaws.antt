@@ -19,7 +19,8 @@ use Rattle.windows.specs.View.{lineAt, rowAt, window}
 use Rattle.lines.specs.View.{inputAt, outputAt}
 use Rattle.windows.specs.Promises.{Lined, written, masked, rowSet, RowOf, Joins, Picks}
 use Rattle.lines.specs.Promises.{Written, Moved, Driven, drivenAt}
-use Rattle.windows.proofs.WindowLaws.{both, window-bit}
+use Rattle.profile.proofs.BoolLaws.{both}
+use Rattle.windows.proofs.WindowLaws.{window-bit}
 use Rattle.windows.proofs.RowLaws.{every, none, every-line, no-line}
 use Rattle.lines.proofs.ColumnLaws.{input-of, output-of}
 

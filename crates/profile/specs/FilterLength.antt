@@ -72,29 +72,25 @@ reply01 ms (transmit message frame) = reply ms (transmit message frame)
 
 -- ---- with the length left at 3 every answer to every list is what it was
 
+-- f at the index of a read, g at the index and the data of a write, true at any other call
+abbrev pub onAccess : (ℕ → Bool) → (ℕ → List ℕ → Bool) → Call → Bool
+onAccess f g (direct (read index sub)) = f index
+onAccess f g (direct (write index sub payload)) = g index payload
+onAccess f g (direct (sample digital analogue events)) = true
+onAccess f g (direct (command code to)) = true
+onAccess f g (direct (raise cause)) = true
+onAccess f g (direct (clear cause)) = true
+onAccess f g (direct (drive lines channels)) = true
+onAccess f g (receive message frame) = true
+onAccess f g (transmit message frame) = true
+
 -- a call that leaves the length at 3: it writes nothing but 3 to 2003
 abbrev pub leavesThree : Call → Bool
-leavesThree (direct (read index sub)) = true
-leavesThree (direct (write index sub payload)) = not (eqb index 0x2003) || eqb (littleEndian payload) 3
-leavesThree (direct (sample digital analogue events)) = true
-leavesThree (direct (command code to)) = true
-leavesThree (direct (raise cause)) = true
-leavesThree (direct (clear cause)) = true
-leavesThree (direct (drive lines channels)) = true
-leavesThree (receive message frame) = true
-leavesThree (transmit message frame) = true
+leavesThree c = onAccess (λ index. true) (λ index payload. not (eqb index 0x2003) || eqb (littleEndian payload) 3) c
 
 -- a call that does not name 2003, which no device had
 abbrev pub without2003 : Call → Bool
-without2003 (direct (read index sub)) = not (eqb index 0x2003)
-without2003 (direct (write index sub payload)) = not (eqb index 0x2003)
-without2003 (direct (sample digital analogue events)) = true
-without2003 (direct (command code to)) = true
-without2003 (direct (raise cause)) = true
-without2003 (direct (clear cause)) = true
-without2003 (direct (drive lines channels)) = true
-without2003 (receive message frame) = true
-without2003 (transmit message frame) = true
+without2003 c = onAccess (λ index. not (eqb index 0x2003)) (λ index payload. not (eqb index 0x2003)) c
 
 abbrev pub every : (Call → Bool) → List Call → Bool
 every p [] = true

@@ -1,7 +1,7 @@
 -- From what the code of a call knows at each return to the promise of the call.
 -- Assumes nothing.
 use mathlib.Core.Path.{_≡_, refl, ap, ap₂, _∙_, sym}
-use mathlib.Core.Bool.{Bool, true, false, not, cond, _&&_, false≢true}
+use mathlib.Core.Bool.{Bool, true, false, not, cond, _&&_}
 use mathlib.Core.List.{List, [], _∷_, _++_}
 use Prim.Native.Nat.{ℕ, _<_, _≤_}
 use native.Mathlib.Omega.{arith}
@@ -37,6 +37,7 @@ use Rattle.profile.specs.Heard.{freshMachines, conditions, numberOf, stepAll}
 use Rattle.profile.specs.Replies.{readValue, plain, readReply, sampleReply, driveReply, lineEvents, answer, answerTo, refuse, refuseTo}
 use Rattle.profile.specs.Replies.{reply}
 use Rattle.profile.specs.Outcome.{Same, Outcome}
+use Rattle.profile.proofs.BoolLaws.{both}
 use Rattle.profile.proofs.ListLaws.{bytes-cong}
 use Rattle.profile.proofs.NodesAgree.{known-of}
 use Rattle.profile.proofs.RefusalLaws.{none-holds, first-skip, first-stop, access-sound}
@@ -236,16 +237,12 @@ sample-lengths a b e z =
           (not-false (eqb e 16) (none .1 .1 .0)),
     )
 
-both-true : (a b : Bool) → a && b ≡ true → (a ≡ true) × (b ≡ true)
-both-true true b e = (refl, e)
-both-true false b e = absurd (false≢true e)
-
 pub drive-lengths : (a b : ℕ) → driveRefusal a b ≡ 0 → (a ≡ 16) × (b ≡ 8)
 unfolding driveRefusal
 drive-lengths a b z =
     let none = none-holds ((not (eqb a 16 && eqb b 8) ⇒ 6) ∷ []) (λ h. omega arith, tt) z in
-    let both = both-true (eqb a 16) (eqb b 8) (not-false (eqb a 16 && eqb b 8) (none .0)) in
-    (eqb-true a 16 (both .0), eqb-true b 8 (both .1))
+    let long = both (eqb a 16) (eqb b 8) (not-false (eqb a 16 && eqb b 8) (none .0)) in
+    (eqb-true a 16 (long .0), eqb-true b 8 (long .1))
 
 -- what is known once the buffers have their lengths
 pub record Sampling (d r : Parts) (digital : List ℕ) (analogue : List ℤ) (shown : List ℕ) (events : ℕ) : Type 0 where

@@ -14,11 +14,12 @@ use lib.Bits.{bitAnd, bitOr}
 use borrow.Author.Tests.{lt-ltb, le-ltb, ltb-true, ltb-false, leb-true, leb-false, eqb-true, eqb-false}
 use Rattle.profile.specs.Bits.{bitAt}
 use Rattle.profile.specs.Entries.{inside, bitOf}
+use Rattle.profile.proofs.BoolLaws.{both}
 use Rattle.profile.proofs.BitLaws.{bit-and, bit-or, bit-not, bit-ones, bit-zero}
 use Rattle.windows.specs.declared.Row.{Row}
 use Rattle.windows.specs.View.{lineAt, rowAt, isEmpty, window}
 use Rattle.windows.specs.Promises.{Lined, written, masked, rowSet, cleared, RowOf, Joins, Picks}
-use Rattle.windows.proofs.WindowLaws.{both, window-bit, window-small, bit-low}
+use Rattle.windows.proofs.WindowLaws.{window-bit, window-small, bit-low}
 
 -- ---- operations on whole rows
 

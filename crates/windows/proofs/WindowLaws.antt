@@ -1,7 +1,7 @@
 -- The window law, for every width that divides 64: what a read and a write through a window are, line by line.
 -- Assumes nothing.
 use mathlib.Core.Path.{_≡_, refl, sym, ap, ap₂, _∙_}
-use mathlib.Core.Bool.{Bool, true, false, not, cond, _&&_, _||_, and-false, and-true, or-false, false≢true}
+use mathlib.Core.Bool.{Bool, true, false, not, cond, _&&_, _||_, and-false, and-true, or-false}
 use mathlib.Core.List.{List}
 use Prim.Native.Nat.{ℕ, zero, suc, _+_, _-_, _*_, _/_, _%_, _^_, _≤_, _<_}
 use native.Mathlib.Nat.{mod-lt, mod-eq-of-lt, mul-add, mul-assoc, mul-one, one-mul, mul-zero, mul-le-mul-left, div-add-mod, zero-lt-suc}
@@ -16,6 +16,7 @@ use mir.Val.{Fits}
 use borrow.Author.Tests.{lt-ltb, le-ltb, le-leb, lt-leb, eq-eqb, ltb-true, ltb-false, leb-true, leb-false, eqb-true, eqb-false}
 use Rattle.profile.specs.Bits.{bitAt, gather}
 use Rattle.profile.specs.Entries.{firstLine, inside, bitOf}
+use Rattle.profile.proofs.BoolLaws.{both}
 use Rattle.profile.proofs.BitLaws.{bit-and, bit-or, bit-not, bit-ones, bit-small, bit-shr, bit-shl, bit-mod}
 use Rattle.profile.proofs.BitLaws.{gather-bit, gather-bits, gather-cong, gather-small}
 use Rattle.windows.specs.View.{lineAt, window}
@@ -96,10 +97,6 @@ pub small-as : (words : List ℕ) (a w s : ℕ) {v : ℕ} → v ≡ window words
 small-as words a w s e = rw e (window-small words a w s)
 
 -- ---- a line inside a window
-
-pub both : (t u : Bool) → t && u ≡ true → (t ≡ true) × (u ≡ true)
-both true u e = (refl, e)
-both false u e = absurd (false≢true e)
 
 inside-true : (w s i : ℕ) → inside w s i ≡ true → (firstLine w s ≤ i) × (i < firstLine w s + w)
 unfolding inside

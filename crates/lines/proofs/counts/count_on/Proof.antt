@@ -1,6 +1,6 @@
 -- `count_on` meets its contract.
 -- Assumes nothing.
-use Prim.Native.Nat.{_-_}
+use Prim.Native.Nat.{_-_, _<_}
 use native.Mathlib.Omega.{arith}
 use denote.Ref.{now}
 use borrow.Author.Needs.{needs}
@@ -57,7 +57,7 @@ loop-again c =
     let at-loop = at-test .before in
     let args = at-loop .before .args in
     let l = at-loop .loop in
-    let h = at-test .loop-test .taken in
+    let h : l .b < 8 = omega (arith, at-test .loop-test .taken) in
     let was = counting-row h (l .inv .0) (at-row .row .ensures) in (
       counting-more (now (args .words)) (args .counts) (l .b) (at-and .and .result) h
           (carried-row (at-row .row .result) (l .inv .1) h was (at-xor .xor .ensures) (at-and .and .ensures)) (l .inv .0)

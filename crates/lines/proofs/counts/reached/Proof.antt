@@ -43,7 +43,7 @@ loop-less c = omega (arith, c .before .before .loop-test .taken)
 loop-again : tie.Need-loop-again Inv-loop μ-loop
 loop-again c =
     let at-test = c .before .before in
-    comparing-more (at-test .before .loop .inv) (at-test .loop-test .taken) (c .before .row .ensures) (c .compared .ensures)
+    comparing-more (at-test .before .loop .inv) (omega (arith, at-test .loop-test .taken)) (c .before .row .ensures) (c .compared .ensures)
 
 returns : tie.Need-returns Inv-loop μ-loop
 returns c =
