@@ -1,4 +1,6 @@
 // The sixteen analogue inputs, in arrays that the caller lends.
+#![tactic(auto)]
+
 ghost use Rattle.std.specs.Prelude.{◌≡◌, ◌*◌, ◌^◌, ◌<◌, length};
 ghost use Rattle.profile.specs.Bits.{bit_at, bit, gather};
 ghost use Rattle.profile.specs.AnalogueInput.{input_size};
@@ -14,7 +16,7 @@ use channels::fields::{
 use channels::numbers::{bits16, bits32, signed32};
 use profile::AnalogueInput;
 
-#[derive(Drop)]
+#[derive(Clone, Copy)]
 pub struct SampledChannel {
     pub channel: AnalogueInput,
     pub event: bool,

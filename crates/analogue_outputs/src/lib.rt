@@ -1,4 +1,6 @@
 // The eight analogue outputs, in arrays that the caller lends.
+#![tactic(auto)]
+
 ghost use Rattle.std.specs.Prelude.{◌≡◌, ◌<◌, length};
 ghost use Rattle.profile.specs.AnalogueOutput.{move_analogue_output, read_analogue_output, write_analogue_output};
 ghost use Rattle.analogue_outputs.specs.Writable.{Writable};

@@ -1,4 +1,6 @@
 // Answer lines: the call's number, what it answers, and words that help a person.
+#![tactic(auto)]
+
 ghost use Rattle.profile.specs.Entries.{home_of};
 ghost use Rattle.texts.specs.Texts.{Put};
 ghost use Rattle.answers.specs.Answers.{number_text, end_text, lines_text, entry_text, direction_text, place_in_mapping, mapping_text};

@@ -1,4 +1,6 @@
 // The device of documents 01 and 02: six arrays, and its eleven calls as methods. Every call is refused or accepted on every input.
+#![tactic(auto)]
+
 use channels::fields::{Deltas, Flags, Limits, Octets, Values};
 use windows::Words;
 
@@ -11,7 +13,7 @@ pub mod requests;
 
 // By element type: bytes, flags, the words of the lines, the limits of the channels, their deltas and the mappings, the values of the
 // channels.
-#[derive(Drop)]
+#[derive(Clone, Copy)]
 pub struct Device {
     pub octets: Octets,
     pub flags: Flags,
@@ -22,14 +24,14 @@ pub struct Device {
 }
 
 // What create hands back.
-#[derive(Drop)]
+#[derive(Clone, Copy)]
 pub struct Created {
     pub number: u32,
     pub device: Device,
 }
 
 // What a read hands back.
-#[derive(Drop)]
+#[derive(Clone, Copy)]
 pub struct ReadAnswer {
     pub number: u32,
     pub value: u32,
@@ -39,7 +41,7 @@ pub struct ReadAnswer {
 }
 
 // What a sample hands back, beside the event buffer.
-#[derive(Drop)]
+#[derive(Clone, Copy)]
 pub struct SampleAnswer {
     pub number: u32,
     // Bit n - 1 for channel n.
@@ -48,7 +50,7 @@ pub struct SampleAnswer {
 }
 
 // What a transmit hands back, beside the frame.
-#[derive(Drop)]
+#[derive(Clone, Copy)]
 pub struct TransmitAnswer {
     pub number: u32,
     // Of bytes written.
@@ -57,7 +59,7 @@ pub struct TransmitAnswer {
 }
 
 // What a request hands back, beside the reply.
-#[derive(Drop)]
+#[derive(Clone, Copy)]
 pub struct RequestAnswer {
     pub number: u32,
     // Of the reply in bytes: 8, or 0 where there is none.
@@ -66,7 +68,7 @@ pub struct RequestAnswer {
 }
 
 // What a write, a command, a raise, a clear, a drive and a receive hand back.
-#[derive(Drop)]
+#[derive(Clone, Copy)]
 pub struct Answer {
     pub number: u32,
     pub device: Device,

@@ -1,4 +1,6 @@
 // The answer line of a request.
+#![tactic(auto)]
+
 ghost use Rattle.std.specs.Prelude.{cond};
 ghost use Rattle.texts.specs.Texts.{Put};
 ghost use Rattle.frame_answers.specs.FrameAnswers.{buffer_text, refused_end, silent_end, abort_end, replied_end, reply_end, reply_line};

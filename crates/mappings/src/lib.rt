@@ -1,4 +1,6 @@
 // The process data mappings of document 02: what their entries move, and the eight of them in the array that the device lends.
+#![tactic(auto)]
+
 ghost use Rattle.std.specs.Prelude.{◌≡◌, cond, ◌≤◌, ◌<◌, eqb, length};
 ghost use Rattle.profile.specs.MappedEntries.{received, transmitted, index_of, sub_of, mappable, moved, total};
 ghost use Rattle.profile.specs.Mapping.{read_mapping};

@@ -1,4 +1,5 @@
 // receive and transmit, in place: the process data messages of document 02.
+#![tactic(auto)]
 
 // Whether the node is operational, and a frame as long as its mapping.
 pub mod conditions;
@@ -9,7 +10,7 @@ pub mod transmitted;
 
 // What a transmit in place answers.
 #[repr(C)]
-#[derive(Drop)]
+#[derive(Clone, Copy)]
 pub struct TransmitNumber {
     pub number: u32,
     // Of bytes written.

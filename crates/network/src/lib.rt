@@ -1,4 +1,6 @@
 // create, command, raise and clear, in place.
+#![tactic(auto)]
+
 ghost use Rattle.std.specs.Prelude.{◌≡◌, eqb, length};
 ghost use Rattle.profile.specs.Calls.{Plain, direct};
 ghost use Rattle.profile.specs.Replies.{plain};

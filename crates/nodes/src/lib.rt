@@ -1,4 +1,6 @@
 // Document 01, "Node state and faults": what calls and causes make of a node.
+#![tactic(auto)]
+
 ghost use Rattle.std.specs.Prelude.{◌≡◌, ◌<◌};
 ghost use Rattle.profile.specs.declared.Home.{Home};
 ghost use Rattle.profile.specs.Nodes.{stopped, operational, fault, fresh_node, with_state, loss_state, raise_node, clear_node};

@@ -1,4 +1,6 @@
 // The notation of a list of calls: a line as a call.
+#![tactic(auto)]
+
 use profile::{Cause, Message};
 use words::Expected;
 
@@ -12,7 +14,7 @@ mod messages;
 mod requests;
 
 // What a line says. Its data stand in the buffers lent to the reader.
-#[derive(Drop)]
+#[derive(Clone, Copy)]
 pub enum Call {
     // An empty line, or a comment.
     Nothing,

@@ -1,4 +1,6 @@
 // read and write, in place.
+#![tactic(auto)]
+
 ghost use Rattle.std.specs.Prelude.{◌≡◌, ◌++◌, length};
 ghost use Rattle.profile.specs.Refusals.{first, value_checks};
 ghost use Rattle.profile.specs.Calls.{Plain, direct};
@@ -21,7 +23,7 @@ use windows::Words;
 
 // What a read in place answers.
 #[repr(C)]
-#[derive(Drop)]
+#[derive(Clone, Copy)]
 pub struct ReadNumber {
     pub number: u32,
     pub value: u32,

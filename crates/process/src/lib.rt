@@ -1,4 +1,6 @@
 // sample and drive, in place.
+#![tactic(auto)]
+
 ghost use Rattle.profile.specs.Calls.{Plain, direct};
 ghost use Rattle.store.specs.View.{held};
 ghost use Rattle.store.specs.Promises.{Ensured, EnsuredOf};
@@ -15,7 +17,7 @@ use windows::{Row, Words};
 
 // What a sample in place answers, beside the event buffer.
 #[repr(C)]
-#[derive(Drop)]
+#[derive(Clone, Copy)]
 pub struct SampleNumber {
     pub number: u32,
     // Bit n - 1 for channel n.

@@ -1,4 +1,6 @@
 // request, in place: the service data server of document 02.
+#![tactic(auto)]
+
 ghost use Rattle.std.specs.Prelude.{◌≡◌, true, false, length};
 ghost use Rattle.profile.specs.Nodes.{stopped};
 ghost use Rattle.profile.specs.Calls.{Plain, Call};
@@ -19,7 +21,7 @@ use windows::Words;
 
 // What a request in place answers.
 #[repr(C)]
-#[derive(Drop)]
+#[derive(Clone, Copy)]
 pub struct RequestNumber {
     pub number: u32,
     // Of the reply in bytes: 8, or 0 where there is none.

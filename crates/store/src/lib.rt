@@ -1,4 +1,6 @@
 // The six arrays of a device: the node that they hold, and fresh arrays. What the calls in place promise of them is in specs/.
+#![tactic(auto)]
+
 ghost use Rattle.std.specs.Prelude.{◌≡◌};
 ghost use Rattle.store.specs.View.{state_of, state_number, node_at, node_octets, node_flags, held};
 ghost use Rattle.store.specs.Promises.{FreshLeft};

@@ -7,7 +7,7 @@ ghost use Rattle.windows.specs.Promises.{Covers, Lined, written, masked, row_set
 use crate::{Row, Words};
 
 // Where a window lies: the index of its word, and its lowest bit in it.
-#[derive(Drop)]
+#[derive(Clone, Copy)]
 struct Place {
     word: usize,
     shift: usize,

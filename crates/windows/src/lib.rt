@@ -1,4 +1,5 @@
 // Twenty rows of 128 lines, bit-parallel in words of 64 bits, two words each, in an array that the caller lends.
+#![tactic(auto)]
 
 // Windows on the rows, and whole rows.
 pub mod access;
@@ -12,7 +13,7 @@ pub const WORDS: usize = 40;
 pub type Words = [u64; WORDS];
 
 // One row of 128 lines.
-#[derive(Drop)]
+#[derive(Clone, Copy)]
 pub struct Row {
     pub low: u64,
     pub high: u64,

@@ -10,7 +10,7 @@ use channels::numbers::signed16;
 use check::same;
 
 // What reading a list finds.
-#[derive(Drop)]
+#[derive(Clone, Copy)]
 pub enum Items {
     // How many, and how many bytes of the line they take.
     Read(usize, usize),

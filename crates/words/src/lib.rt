@@ -1,4 +1,5 @@
 // What a line of a list is made of: words, numbers and lists of them, and a line as an expected answer.
+#![tactic(auto)]
 
 // The words of a line.
 pub mod split;
@@ -10,7 +11,7 @@ pub mod items;
 pub mod expectations;
 
 // What should have stood in the line.
-#[derive(Drop)]
+#[derive(Clone, Copy)]
 pub enum Expected {
     Call,
     Byte,

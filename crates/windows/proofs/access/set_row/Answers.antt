@@ -1,0 +1,8 @@
+-- `set_row` meets its contract: two words are stored.
+-- Assumes nothing.
+use borrow.Author.Rules.{rules}
+use Rattle.windows.proofs.RowLaws.{row_write}
+use Rattle.windows.proofs.access.set_row.Goals as goal
+
+pub returns : goal.returns
+returns c = row_write _ _ _ c.requires.words_len c.requires.a_bound
