@@ -1,0 +1,10 @@
+-- `write` meets its contract.
+-- Assumes nothing.
+use borrow.Author.Rules.{rules}
+use Rattle.mappings.proofs.ViewLaws.{mapping_stored}
+use Rattle.mappings.proofs.write.Goals as goal
+
+pub returns : goal.returns
+returns c =
+    let a = c.args in
+    mapping_stored a.deltas.now a.m a.sub a.value c.requires.deltas_len c.requires.m_bound.0 c.requires.m_bound.1

@@ -1,0 +1,16 @@
+-- `numbers::number` meets its contract: what the rest of the word makes of the number so far is the word's number.
+-- Assumes nothing.
+use Rattle.words.proofs.NumberLaws.{onward, capped_small, small_product, number_is, number_none, digit_more, digit_none}
+use Rattle.words.proofs.NumberLaws.{onward_ends}
+use native.Mathlib.Omega.{arith}
+use borrow.Author.Rules.{rules}
+use lib.ListN.{length, drop}
+use Prim.Native.Nat.{◌+◌, ◌*◌, ◌-◌, ◌≤◌}
+use mathlib.Core.Path.{◌≡◌, refl, sym, ap, subst, ◌∙◌}
+use Rattle.words.proofs.numbers.number.Given as goal
+
+abbrev pub invariant-loop-i : goal.invariant-loop-i
+invariant-loop-i l = (l.i ≤ length l.word) × (l.value ≤ 65536) × (onward l.base l.value (drop l.i l.word) ≡ onward l.base 0 l.word)
+
+abbrev pub decreases-loop-i : goal.decreases-loop-i
+decreases-loop-i l = length l.word - l.i
