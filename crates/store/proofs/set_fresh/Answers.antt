@@ -1,0 +1,16 @@
+-- `set_fresh` meets its contract: every array fresh, the deltas in three parts.
+-- Assumes nothing.
+use native.Mathlib.Omega.{arith}
+use borrow.Author.Rules.{rules}
+use Rattle.channels.proofs.StoreLaws.{zeroed_both, zeroed_all}
+use Rattle.store.proofs.StepLaws.{fresh_left}
+use Rattle.store.proofs.set_fresh.Goals as goal
+
+pub returns : goal.returns
+returns c =
+    let stored = c.set_node.ensures in
+    let long = c.lend_settings-arg-4-1.given in
+    let low = zeroed_both (omega arith) (omega arith) c.zero_deltas.ensures c.empty_received.ensures in
+    let zeros = zeroed_all long (zeroed_both (omega arith) (omega arith) low c.empty_transmitted.ensures) in
+    rw (c.set_modes.ensures, stored.0, stored.1, c.set_sources.ensures, c.fresh-node.ensures, zeros)
+    (fresh_left c.args.number _ c.fresh.ensures)

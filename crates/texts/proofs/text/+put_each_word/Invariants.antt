@@ -1,0 +1,7 @@
+-- What is left of the line falls.
+-- Assumes nothing.
+use Rattle.std.proofs.Common.{length}
+use Rattle.texts.proofs.text.+put_each_word.Given as goal
+
+abbrev pub decreases-put_each_word : goal.decreases-put_each_word
+decreases-put_each_word l = length l.text.now
