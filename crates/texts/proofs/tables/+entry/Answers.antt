@@ -6,10 +6,6 @@ use borrow.Author.Rules.{rules}
 use Rattle.texts.proofs.TableLaws.{entry_first, entry_later}
 use Rattle.texts.proofs.tables.+entry.Goals as goal
 
--- what `entry` is given at the measure t
-abbrev given : ℕ → In 1 entry-kinds.ps
-given t = and 1 entry-kinds.ps (is 1 entry-kinds.ps μ-entry t) entry.Pre
-
 pub front-requires : goal.front-requires
 front-requires t c = c.until-end.ensures.within
 
@@ -23,7 +19,7 @@ pub overflow_sub-n : goal.overflow_sub-n
 overflow_sub-n t c = omega (arith, c.if-n-eq0.false)
 
 pub entry-requires : goal.entry-requires
-entry-requires t c = (omega (arith, c.if-n-eq0.false, c.requires.0), tt)
+entry-requires t c = omega (arith, c.if-n-eq0.false, c.decreases)
 
 pub returns : goal.returns
 returns t c =

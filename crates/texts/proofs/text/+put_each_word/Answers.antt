@@ -17,7 +17,7 @@ returns-then-is_blank t c = words_put_none _ _ _ (sym c.is_blank.ensures ∙ c.i
 pub put_each_word-requires : goal.put_each_word-requires
 put_each_word-requires t c =
     let some = eqb-false (length (first_word c.args.text.now)) 0 (sym c.is_blank.ensures ∙ c.if-is_blank.false) in
-    (omega (arith, ap length c.after_word.ensures, after_shorter c.args.text.now some, c.requires.0), tt)
+    omega (arith, ap length c.after_word.ensures, after_shorter c.args.text.now some, c.decreases)
 
 pub returns : goal.returns
 returns t c =

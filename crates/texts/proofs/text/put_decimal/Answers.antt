@@ -13,4 +13,4 @@ returns c =
     subst (λ (t : List ℕ). Put t c.args.out.now c.args.at c.put_all.new.out
     c.put_all.result)
     (decimal_is c.args.number c.decimal-n.result _ c.ranges.number.fits
-    c.decimal-n.ensures.1.0 c.decimal-n.ensures.1.1) c.put_all.ensures
+    c.decimal-n.ensures.len c.decimal-n.ensures.digits) c.put_all.ensures
