@@ -23,7 +23,7 @@ pub fn put_attribute(out: &mut [u8], at: usize, row: usize) -> usize
 
 // What a refusal means.
 pub fn put_meaning(out: &mut [u8], at: usize, number: u32) -> usize
-    ensures { Put (refusalText number) out.old at out.new result }
+    ensures { Put (refusal_text number) out.old at out.new result }
 {
     let numbers = [
         1,
@@ -56,7 +56,7 @@ pub fn put_meaning(out: &mut [u8], at: usize, number: u32) -> usize
 
 // What should have stood in a line.
 pub fn put_expected(out: &mut [u8], at: usize, expected: Expected) -> usize
-    ensures { Put (expectedText expected) out.old at out.new result }
+    ensures { Put (expected_text expected) out.old at out.new result }
 {
     let words = b"a call or an index of 1 to 4 hexadecimal digits;1 or 2 hexadecimal digits;\
         a number from 0 to 255;a number from -32768 to 32767;internal or communication;\

@@ -1,6 +1,5 @@
 -- `inputs::meets_delta` meets its contract: a sample is below the reference, or not.
 -- Assumes nothing.
-use borrow.Author.Rules.{rules}
 use mathlib.Core.Path.{◌≡◌, ap, ◌∙◌}
 use mir.Syntax.{w16}
 use mir.Val.{SFits}

@@ -1,6 +1,5 @@
 -- `inputs::meets_selected` meets its contract: the limits where the sample differs, then the deltas.
 -- Assumes nothing.
-use borrow.Author.Rules.{rules}
 use mathlib.Core.Path.{◌≡◌, sym, ap, ap₂, ◌∙◌}
 use mathlib.Core.Bool.{Bool, not, ◌&&◌, ◌||◌}
 use lib.Dec.{eqb}

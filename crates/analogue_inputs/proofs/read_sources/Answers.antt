@@ -1,7 +1,6 @@
 -- `read_sources` meets its contract: a number of 16 bits is gathered from its bits.
 -- Assumes nothing.
 use mathlib.Core.Path.{sym, ◌∙◌}
-use borrow.Author.Rules.{rules}
 use Rattle.profile.proofs.BitLaws.{gather_bits}
 use Rattle.channels.specs.View.{sources_of}
 use Rattle.analogue_inputs.proofs.read_sources.Goals as goal

@@ -1,7 +1,6 @@
 -- `sample_all` meets its contract: the source bits are joined with the events.
 -- Assumes nothing.
 use lib.Bits.{or_lt}
-use borrow.Author.Rules.{rules}
 use Rattle.analogue_inputs.proofs.SourceLaws.{events_small, sources_stored, inputs_sampled}
 use Rattle.analogue_inputs.proofs.sample_all.Goals as goal
 

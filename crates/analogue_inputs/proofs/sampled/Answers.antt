@@ -1,6 +1,5 @@
 -- `inputs::sampled` meets its contract, by whether the sample is an event.
 -- Assumes nothing.
-use borrow.Author.Rules.{rules}
 use mathlib.Core.Path.{◌≡◌, ap, ◌∙◌}
 use mathlib.Core.Bool.{Bool, ◌&&◌}
 use mir.Facts.{to_z-of_z}

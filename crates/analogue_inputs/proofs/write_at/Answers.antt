@@ -1,6 +1,5 @@
 -- `inputs::write_at` meets its contract: one channel's settings are stored.
 -- Assumes nothing.
-use borrow.Author.Rules.{rules}
 use Rattle.analogue_inputs.proofs.StoreLaws.{input_stored}
 use Rattle.analogue_inputs.proofs.write_at.Goals as goal
 

@@ -1,11 +1,8 @@
 -- `outputs::drive` meets its contract. The loop's invariant: the numbers below i are what the outputs drive.
 -- Assumes nothing.
-use Prim.Native.Nat.{◌+◌, ◌-◌, ◌≤◌}
 use native.Mathlib.Omega.{arith}
 use borrow.Author.Rules.{rules}
-use lib.ListN.{get_or}
-use lib.IntN.{pos}
-use Rattle.analogue_outputs.proofs.Mapped.{Mapped, mapped_none, mapped_more, mapped_list}
+use Rattle.analogue_outputs.proofs.Mapped.{mapped_none, mapped_more, mapped_list}
 use Rattle.analogue_outputs.proofs.drive.Goals as goal
 
 pub loop-i-init : goal.loop-i-init

@@ -1,11 +1,9 @@
 -- `outputs::drive` meets its contract. The loop's invariant: the numbers below i are what the outputs drive.
 -- Assumes nothing.
 use Prim.Native.Nat.{◌+◌, ◌-◌, ◌≤◌}
-use native.Mathlib.Omega.{arith}
-use borrow.Author.Rules.{rules}
 use lib.ListN.{get_or}
 use lib.IntN.{pos}
-use Rattle.analogue_outputs.proofs.Mapped.{Mapped, mapped_none, mapped_more, mapped_list}
+use Rattle.analogue_outputs.proofs.Mapped.{Mapped}
 use Rattle.analogue_outputs.proofs.drive.Given as goal
 
 abbrev pub invariant-loop-i : goal.invariant-loop-i

@@ -1,16 +1,14 @@
 -- `move_all` meets its contract. The loop's invariant: the outputs below i are moved.
 -- Assumes nothing.
-use Prim.Native.Nat.{◌+◌, ◌-◌, ◌≤◌}
+use Prim.Native.Nat.{◌+◌}
 use mathlib.Core.Path.{◌≡◌, ap, ◌∙◌}
 use native.Mathlib.Omega.{arith}
-use borrow.Author.Rules.{rules}
-use lib.IntN.{pos}
 use mir.Syntax.{w16}
 use mir.Val.{SFits}
 use mir.Facts.{to_z-of_z}
 use Rattle.profile.specs.AnalogueOutput.{move_analogue_output}
-use Rattle.channels.specs.View.{output_at, Outside}
-use Rattle.channels.proofs.Sweeps.{Forward, forward_none, forward_more}
+use Rattle.channels.specs.View.{output_at}
+use Rattle.channels.proofs.Sweeps.{forward_none, forward_more}
 use Rattle.channels.proofs.StoreLaws.{outside_none, outside_set}
 use Rattle.analogue_outputs.proofs.StoreLaws.{moved_here, moved_else}
 use Rattle.analogue_outputs.proofs.move_all.Goals as goal

@@ -1,6 +1,5 @@
 -- `outputs::write_at` meets its contract: one channel is stored.
 -- Assumes nothing.
-use borrow.Author.Rules.{rules}
 use Rattle.analogue_outputs.proofs.StoreLaws.{output_stored}
 use Rattle.analogue_outputs.proofs.write_at.Goals as goal
 

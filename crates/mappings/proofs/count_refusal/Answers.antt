@@ -2,7 +2,6 @@
 -- Assumes nothing.
 use mathlib.Core.Path.{sym}
 use native.Mathlib.Omega.{arith}
-use borrow.Author.Rules.{rules}
 use Rattle.mappings.specs.View.{mapping_at}
 use Rattle.mappings.proofs.ViewLaws.{first_entries}
 use Rattle.mappings.proofs.EntryLaws.{many_entries, many_bits, fitting_count}

@@ -1,7 +1,6 @@
 -- `entries_at` meets its contract, entry by entry.
 -- Assumes nothing.
 use mathlib.Core.Path.{refl}
-use borrow.Author.Rules.{rules}
 use Rattle.profile.specs.Mapping.{read_mapping}
 use Rattle.mappings.proofs.entries_at.Goals as goal
 

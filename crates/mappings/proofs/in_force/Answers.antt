@@ -3,7 +3,6 @@
 use mathlib.Core.Path.{ap}
 use Prim.Native.Nat.{ℕ}
 use lib.ListN.{take}
-use borrow.Author.Rules.{rules}
 use Rattle.profile.specs.Mapping.{read_mapping}
 use Rattle.mappings.specs.View.{mapping_at}
 use Rattle.mappings.proofs.ViewLaws.{all_in_force}

@@ -1,8 +1,6 @@
 -- `moved` meets its contract.
 -- Assumes nothing.
 use mathlib.Core.Path.{sym, ap, ◌∙◌}
-use borrow.Author.Rules.{rules}
-use borrow.Author.Tests.{not-true, not-false}
 use Rattle.profile.specs.declared.Entry.{Entry}
 use Rattle.mappings.proofs.EntryLaws.{not_mappable, other_length, own_length}
 use Rattle.mappings.proofs.moved.Goals as goal

@@ -1,7 +1,6 @@
 -- `read` meets its contract.
 -- Assumes nothing.
 use mathlib.Core.Path.{sym}
-use borrow.Author.Rules.{rules}
 use Rattle.mappings.proofs.ViewLaws.{read_is}
 use Rattle.mappings.proofs.read.Goals as goal
 

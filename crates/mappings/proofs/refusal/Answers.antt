@@ -2,7 +2,6 @@
 -- Assumes nothing.
 use mathlib.Core.Path.{sym, ap, ◌∙◌}
 use Prim.Native.Nat.{ℕ}
-use borrow.Author.Rules.{rules}
 use Rattle.profile.specs.Mapping.{read_mapping}
 use Rattle.profile.specs.Refusals.{first, mapping_checks}
 use Rattle.mappings.specs.View.{mapping_at}

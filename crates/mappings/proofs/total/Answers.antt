@@ -1,11 +1,9 @@
 -- `total` meets its contract. The loop's invariant: the sum is of the entries below j.
 -- Assumes nothing.
-use Prim.Native.Nat.{◌-◌}
 use native.Mathlib.Omega.{arith}
 use lib.ListN.{get_or}
-use borrow.Author.Rules.{rules}
 use Rattle.profile.proofs.MappedLaws.{moved_small}
-use Rattle.mappings.proofs.ViewLaws.{Summed, summed_none, summed_more, summed_all}
+use Rattle.mappings.proofs.ViewLaws.{summed_none, summed_more, summed_all}
 use Rattle.mappings.proofs.total.Goals as goal
 
 pub loop-j-init : goal.loop-j-init

@@ -1,6 +1,5 @@
 -- `write` meets its contract.
 -- Assumes nothing.
-use borrow.Author.Rules.{rules}
 use Rattle.mappings.proofs.ViewLaws.{mapping_stored}
 use Rattle.mappings.proofs.write.Goals as goal
 

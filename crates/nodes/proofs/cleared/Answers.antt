@@ -1,6 +1,5 @@
 -- `cleared` meets its contract: by cases on the cause.
 -- Assumes nothing.
-use borrow.Author.Rules.{rules}
 use Rattle.profile.specs.Nodes.{clear_node}
 use Rattle.nodes.proofs.cleared.Goals as goal
 

@@ -2,7 +2,6 @@
 -- Assumes nothing.
 use mathlib.Core.Path.{refl}
 use mathlib.Core.Bool.{or-true}
-use borrow.Author.Rules.{rules}
 use Rattle.profile.specs.NodeAlone.{read_node}
 use Rattle.nodes.proofs.error_register.Goals as goal
 

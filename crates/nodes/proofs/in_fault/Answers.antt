@@ -1,7 +1,6 @@
 -- `in_fault` meets its contract: by what `is_stopped` ensures.
 -- Assumes nothing.
 use mathlib.Core.Path.{refl}
-use borrow.Author.Rules.{rules}
 use Rattle.profile.specs.Nodes.{fault}
 use Rattle.nodes.proofs.in_fault.Goals as goal
 

@@ -1,7 +1,6 @@
 -- `obeyed` meets its contract: each command in turn.
 -- Assumes nothing.
 use borrow.Author.Tests.{eq-eqb, ne_eqb}
-use borrow.Author.Rules.{rules}
 use Rattle.profile.specs.Nodes.{obey_node}
 use Rattle.nodes.proofs.obeyed.Goals as goal
 

@@ -1,6 +1,5 @@
 -- `input_at` meets its contract: with the source bit that was read.
 -- Assumes nothing.
-use borrow.Author.Rules.{rules}
 use Rattle.channels.proofs.fields.input_at.Goals as goal
 
 pub returns : goal.returns

@@ -1,7 +1,6 @@
 -- `source_at` meets its contract: bit n of the source bits.
 -- Assumes nothing.
 use mathlib.Core.Path.{refl}
-use borrow.Author.Rules.{rules}
 use Rattle.profile.specs.Bits.{bit_at}
 use Rattle.channels.proofs.fields.source_at.Goals as goal
 

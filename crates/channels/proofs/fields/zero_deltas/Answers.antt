@@ -1,7 +1,7 @@
 -- `fields::zero_deltas` meets its contract. The loop's invariant: the elements below k are 0.
 -- Assumes nothing.
 use mathlib.Core.Path.{◌≡◌, subst}
-use Prim.Native.Nat.{ℕ, ◌-◌, ◌≤◌}
+use Prim.Native.Nat.{ℕ}
 use native.Mathlib.Omega.{arith}
 use Rattle.channels.specs.View.{Zeroed}
 use Rattle.channels.proofs.StoreLaws.{zeroed_none, zeroed_more}

@@ -1,10 +1,7 @@
 -- `fields::zero_deltas` meets its contract. The loop's invariant: the elements below k are 0.
 -- Assumes nothing.
-use mathlib.Core.Path.{◌≡◌, subst}
-use Prim.Native.Nat.{ℕ, ◌-◌, ◌≤◌}
-use native.Mathlib.Omega.{arith}
+use Prim.Native.Nat.{◌-◌, ◌≤◌}
 use Rattle.channels.specs.View.{Zeroed}
-use Rattle.channels.proofs.StoreLaws.{zeroed_none, zeroed_more}
 use Rattle.channels.proofs.fields.zero_deltas.Given as goal
 
 abbrev pub invariant-loop-k : goal.invariant-loop-k

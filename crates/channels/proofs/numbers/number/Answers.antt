@@ -1,7 +1,6 @@
 -- `numbers::number` meets its contract: by the number of its bytes.
 -- Assumes nothing.
 use native.Mathlib.Omega.{arith}
-use borrow.Author.Rules.{rules}
 use Rattle.channels.proofs.ByteLaws.{number_1, number_2, number_4}
 use Rattle.channels.proofs.numbers.number.Goals as goal
 

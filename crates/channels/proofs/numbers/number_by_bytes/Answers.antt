@@ -2,8 +2,7 @@
 -- Assumes nothing.
 use Prim.Native.Nat.{ℕ, ◌-◌, ◌<◌, ◌≤◌, ◌^◌}
 use native.Mathlib.Omega.{arith}
-use lib.ListN.{length}
-use Rattle.channels.proofs.ByteLaws.{Read, read_none, read_more, read_all, more_bytes}
+use Rattle.channels.proofs.ByteLaws.{read_none, read_more, read_all, more_bytes}
 use Rattle.channels.proofs.numbers.number_by_bytes.Goals as goal
 
 -- at most three bytes are read before another

@@ -1,9 +1,7 @@
 -- The loop writes one byte of the rest at a time.
 -- Assumes nothing.
-use Prim.Native.Nat.{◌-◌}
 use native.Mathlib.Omega.{arith}
-use lib.ListN.{length}
-use Rattle.channels.proofs.ByteLaws.{Put, put_none, put_more, put_all}
+use Rattle.channels.proofs.ByteLaws.{put_none, put_more, put_all}
 use Rattle.channels.proofs.numbers.put_number.Goals as goal
 
 pub loop-i-init : goal.loop-i-init

@@ -1,9 +1,8 @@
 -- The loop writes one byte of the rest at a time.
 -- Assumes nothing.
 use Prim.Native.Nat.{◌-◌}
-use native.Mathlib.Omega.{arith}
 use lib.ListN.{length}
-use Rattle.channels.proofs.ByteLaws.{Put, put_none, put_more, put_all}
+use Rattle.channels.proofs.ByteLaws.{Put}
 use Rattle.channels.proofs.numbers.put_number.Given as goal
 
 abbrev pub invariant-loop-i : goal.invariant-loop-i

@@ -1,7 +1,6 @@
 -- `entries::find` meets its contract: by the place that `place_of` finds, inside the table or past it.
 -- Assumes nothing.
 use mathlib.Core.Path.{◌∙◌}
-use borrow.Author.Rules.{rules}
 use Rattle.dictionary.proofs.TableLaws.{entry_inside, entry_outside}
 use Rattle.dictionary.proofs.entries.find.Goals as goal
 

@@ -4,7 +4,6 @@ use Prim.Native.Nat.{ℕ, ◌+◌, ◌*◌, ◌/◌, ◌%◌, ◌<◌}
 use native.Mathlib.Nat.{mod-lt, zero-lt-suc}
 use native.Mathlib.Omega.{arith}
 use Rattle.dictionary.proofs.TableLaws.{byte_small, hint_found, hint_missed}
-use borrow.Author.Rules.{rules}
 use Rattle.dictionary.proofs.entries.keyed_place.Goals as goal
 
 row_below : {p : ℕ} → p < 44 → p / 4 < 11

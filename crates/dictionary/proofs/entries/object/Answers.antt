@@ -2,7 +2,6 @@
 -- Assumes nothing.
 use mathlib.Core.Path.{refl, sym, ◌∙◌}
 use Prim.Native.Nat.{◌-◌}
-use borrow.Author.Rules.{rules}
 use Rattle.profile.specs.Entries.{other_objects, mapping_objects, object_of}
 use Rattle.dictionary.proofs.TableLaws.{missed}
 use Rattle.dictionary.proofs.entries.object.Goals as goal

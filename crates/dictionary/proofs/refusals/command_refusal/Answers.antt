@@ -1,8 +1,7 @@
 -- `refusals::command_refusal` meets its contract: each row in turn.
 -- Assumes nothing.
 use mathlib.Core.Path.{◌∙◌, sym}
-use borrow.Author.Tests.{not-true, not-false, lt-ltb, le-ltb}
-use borrow.Author.Rules.{rules}
+use borrow.Author.Tests.{lt-ltb, le-ltb}
 use Rattle.profile.specs.Refusals.{command_refusal}
 use Rattle.dictionary.proofs.refusals.command_refusal.Goals as goal
 

@@ -1,7 +1,6 @@
 -- `first::first_byte` meets its contract: a sum of four fields that fit their bits.
 -- Assumes nothing.
 use native.Mathlib.Omega.{arith}
-use borrow.Author.Rules.{rules}
 use Rattle.profile.specs.Server.{first_byte}
 use Rattle.profile.proofs.ReadLaws.{one_bit}
 use Rattle.frames.proofs.first.first_byte.Goals as goal

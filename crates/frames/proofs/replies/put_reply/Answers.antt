@@ -1,7 +1,6 @@
 -- `replies::put_reply` meets its contract: one half after the other.
 -- Assumes nothing.
 use mathlib.Core.Path.{ap, ◌∙◌}
-use borrow.Author.Rules.{rules}
 use Rattle.frames.specs.Layout.{filled}
 use Rattle.frames.proofs.LayoutLaws.{reply_stored}
 use Rattle.frames.proofs.replies.put_reply.Goals as goal

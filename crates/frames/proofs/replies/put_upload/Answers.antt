@@ -2,7 +2,6 @@
 -- Assumes nothing.
 use mathlib.Core.Path.{ap, ◌∙◌}
 use Prim.Native.Nat.{ℕ}
-use borrow.Author.Rules.{rules}
 use Rattle.profile.specs.Server.{reply_frame}
 use Rattle.frames.proofs.replies.put_upload.Goals as goal
 

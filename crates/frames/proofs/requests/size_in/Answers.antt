@@ -1,7 +1,6 @@
 -- `requests::size_in` meets its contract: told, or the entry's own.
 -- Assumes nothing.
 use mathlib.Core.Path.{ap₂, ◌∙◌, sym}
-use borrow.Author.Rules.{rules}
 use Rattle.profile.specs.Entries.{entry_of}
 use Rattle.frames.proofs.LayoutLaws.{size_told, size_own}
 use Rattle.frames.proofs.requests.size_in.Goals as goal

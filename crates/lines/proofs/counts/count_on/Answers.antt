@@ -1,9 +1,8 @@
 -- `count_on` meets its contract.
 -- Assumes nothing.
-use Prim.Native.Nat.{◌-◌, ◌<◌}
+use Prim.Native.Nat.{◌<◌}
 use native.Mathlib.Omega.{arith}
-use borrow.Author.Rules.{rules}
-use Rattle.lines.proofs.CountLaws.{Counting, Carried, counting_none, counting_more, counting_all, counting_row}
+use Rattle.lines.proofs.CountLaws.{counting_none, counting_more, counting_all, counting_row}
 use Rattle.lines.proofs.CountLaws.{carried_none, carried_row, carried_more}
 use Rattle.lines.proofs.counts.count_on.Goals as goal
 
@@ -20,7 +19,7 @@ pub overflow_add-b-in-loop-b : goal.overflow_add-b-in-loop-b
 overflow_add-b-in-loop-b c = omega (arith, c.loop-b-test.true)
 
 pub set_row-requires : goal.set_row-requires
-set_row-requires c = record { words_len = c.loop-b.invariant.0.count; a_bound = omega (arith, c.loop-b-test.true); }
+set_row-requires c = record { words_len = c.loop-b.invariant.0.count; a_bound = omega (arith, c.loop-b-test.true) }
 
 pub overflow_add-b-in-loop-b-2 : goal.overflow_add-b-in-loop-b-2
 overflow_add-b-in-loop-b-2 c = omega (arith, c.loop-b-test.true)

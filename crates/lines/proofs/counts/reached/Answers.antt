@@ -1,9 +1,7 @@
 -- `reached` meets its contract.
 -- Assumes nothing.
-use Prim.Native.Nat.{◌-◌}
 use native.Mathlib.Omega.{arith}
-use borrow.Author.Rules.{rules}
-use Rattle.lines.proofs.CountLaws.{Comparing, comparing_none, comparing_more, comparing_all}
+use Rattle.lines.proofs.CountLaws.{comparing_none, comparing_more, comparing_all}
 use Rattle.lines.proofs.counts.reached.Goals as goal
 
 pub loop-b-init : goal.loop-b-init

@@ -1,9 +1,7 @@
 -- `reached` meets its contract.
 -- Assumes nothing.
 use Prim.Native.Nat.{◌-◌}
-use native.Mathlib.Omega.{arith}
-use borrow.Author.Rules.{rules}
-use Rattle.lines.proofs.CountLaws.{Comparing, comparing_none, comparing_more, comparing_all}
+use Rattle.lines.proofs.CountLaws.{Comparing}
 use Rattle.lines.proofs.counts.reached.Given as goal
 
 abbrev pub invariant-loop-b : goal.invariant-loop-b

@@ -1,6 +1,5 @@
 -- `drive` meets its contract: the driven row is stored.
 -- Assumes nothing.
-use borrow.Author.Rules.{rules}
 use Rattle.lines.proofs.OutputLaws.{driven}
 use Rattle.lines.proofs.machines.drive.Goals as goal
 

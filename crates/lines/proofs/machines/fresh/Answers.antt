@@ -1,6 +1,5 @@
 -- `fresh` meets its contract: every row is cleared, and three are set.
 -- Assumes nothing.
-use borrow.Author.Rules.{rules}
 use Rattle.lines.proofs.AccessLaws.{fresh}
 use Rattle.lines.proofs.machines.fresh.Goals as goal
 

@@ -1,6 +1,5 @@
 -- `move_outputs` meets its contract: the driven row is set where fault begins or ends.
 -- Assumes nothing.
-use borrow.Author.Rules.{rules}
 use Rattle.lines.proofs.OutputLaws.{unmoved, fault_begins, fault_ends}
 use Rattle.lines.proofs.machines.move_outputs.Goals as goal
 

@@ -1,6 +1,5 @@
 -- `sample` meets its contract, by one law over its calls.
 -- Assumes nothing.
-use borrow.Author.Rules.{rules}
 use Rattle.lines.proofs.InputLaws.{samples}
 use Rattle.lines.proofs.machines.sample.Goals as goal
 

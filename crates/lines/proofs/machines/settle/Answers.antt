@@ -1,7 +1,6 @@
 -- `settle` meets its contract, by one law over its calls.
 -- Assumes nothing.
 use mathlib.Core.Path.{sym, ◌∙◌}
-use borrow.Author.Rules.{rules}
 use Rattle.lines.proofs.CountLaws.{cleared_counts}
 use Rattle.lines.proofs.InputLaws.{counts_none, counts_some, takes_all, settles}
 use Rattle.lines.proofs.machines.settle.Goals as goal

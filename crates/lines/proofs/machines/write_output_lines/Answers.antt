@@ -11,8 +11,13 @@ returns-then-fault c = kept_in_fault c.if-fault.true c.put_masked.ensures
 
 pub put_masked-requires-2 : goal.put_masked-requires-2
 put_masked-requires-2 c =
-    record { words_len = c.put_masked.ensures.count; covers = search rules; gate_bound = search rules; value_bound = xor_lt c.args.width c.args.value c.get-polarity.result (search rules)
-              (small_as _ _ _ _ c.get-polarity.ensures); }
+    record {
+      words_len = c.put_masked.ensures.count;
+      covers = search rules;
+      gate_bound = search rules;
+      value_bound = xor_lt c.args.width c.args.value c.get-polarity.result (search rules)
+          (small_as _ _ _ _ c.get-polarity.ensures);
+    }
 
 pub returns : goal.returns
 returns c = kept_outside c.if-fault.false c.put_masked.ensures c.get-polarity.ensures c.put_masked-2.ensures

@@ -10,7 +10,7 @@ pub returns-then-fault : goal.returns-then-fault
 returns-then-fault c = inverted_in_fault c.if-fault.true c.put.ensures
 
 pub put-requires-2 : goal.put-requires-2
-put-requires-2 c = record { words_len = c.put.ensures.count; covers = search rules; value_bound = xor_lt c.args.width c.get-kept.result c.args.value (small_as _ _ _ _ c.get-kept.ensures) (search rules); }
+put-requires-2 c = record { words_len = c.put.ensures.count; covers = search rules; value_bound = xor_lt c.args.width c.get-kept.result c.args.value (small_as _ _ _ _ c.get-kept.ensures) (search rules) }
 
 pub returns : goal.returns
 returns c = inverted_outside c.if-fault.false c.put.ensures c.get-kept.ensures c.put-2.ensures

@@ -1,6 +1,5 @@
 -- `Row::load` meets its contract: a word of each half.
 -- Assumes nothing.
-use borrow.Author.Rules.{rules}
 use Rattle.windows.proofs.ByteLaws.{loaded}
 use Rattle.windows.proofs.Row.load.Goals as goal
 

@@ -1,6 +1,5 @@
 -- `Row::store` meets its contract: a word of each half.
 -- Assumes nothing.
-use borrow.Author.Rules.{rules}
 use Rattle.windows.proofs.ByteLaws.{stored}
 use Rattle.windows.proofs.Row.store.Goals as goal
 

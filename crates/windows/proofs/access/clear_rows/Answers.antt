@@ -1,7 +1,7 @@
 -- `clear_rows` meets its contract. The loop's invariant: the rows from `from` up to a are 0.
 -- Assumes nothing.
 use mathlib.Core.Path.{◌≡◌, subst}
-use Prim.Native.Nat.{ℕ, ◌-◌, ◌≤◌}
+use Prim.Native.Nat.{ℕ}
 use native.Mathlib.Omega.{arith}
 use Rattle.windows.specs.Promises.{Lined, cleared}
 use Rattle.windows.proofs.RowLaws.{clearing_none, clearing_more}
@@ -11,7 +11,7 @@ pub loop-a-init : goal.loop-a-init
 loop-a-init c = (omega arith, c.requires.from_le_to.0, clearing_none _ _ c.requires.words_len)
 
 pub set_row-requires : goal.set_row-requires
-set_row-requires c = record { words_len = c.loop-a.invariant.2.count; a_bound = omega (arith, c.loop-a-test.true, c.requires.from_le_to.1); }
+set_row-requires c = record { words_len = c.loop-a.invariant.2.count; a_bound = omega (arith, c.loop-a-test.true, c.requires.from_le_to.1) }
 
 pub overflow_add-a : goal.overflow_add-a
 overflow_add-a c = omega (arith, c.loop-a-test.true, c.requires.from_le_to.1)

@@ -1,10 +1,7 @@
 -- `clear_rows` meets its contract. The loop's invariant: the rows from `from` up to a are 0.
 -- Assumes nothing.
-use mathlib.Core.Path.{◌≡◌, subst}
-use Prim.Native.Nat.{ℕ, ◌-◌, ◌≤◌}
-use native.Mathlib.Omega.{arith}
+use Prim.Native.Nat.{◌-◌, ◌≤◌}
 use Rattle.windows.specs.Promises.{Lined, cleared}
-use Rattle.windows.proofs.RowLaws.{clearing_none, clearing_more}
 use Rattle.windows.proofs.access.clear_rows.Given as goal
 
 abbrev pub invariant-loop-a : goal.invariant-loop-a

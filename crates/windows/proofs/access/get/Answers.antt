@@ -4,7 +4,6 @@ use native.Mathlib.Nat.{lt_of_lt_of_le, mod-lt}
 use native.Mathlib.Omega.{arith}
 use lib.Bits.{and_mask}
 use lib.Pow.{pow_pos, pow_mono}
-use borrow.Author.Rules.{rules}
 use Rattle.windows.proofs.WindowLaws.{bounds, size, window_read}
 use Rattle.windows.proofs.access.get.Goals as goal
 

@@ -2,7 +2,6 @@
 -- Assumes nothing.
 use native.Mathlib.Omega.{arith}
 use lib.Pow.{pow_pos}
-use borrow.Author.Rules.{rules}
 use Rattle.windows.proofs.WindowLaws.{bounds, size, window_write}
 use Rattle.windows.proofs.access.put.Goals as goal
 

@@ -1,6 +1,5 @@
 -- `row` meets its contract.
 -- Assumes nothing.
-use borrow.Author.Rules.{rules}
 use Rattle.windows.proofs.RowLaws.{row_read}
 use Rattle.windows.proofs.access.row.Goals as goal
 

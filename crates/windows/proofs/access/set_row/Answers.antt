@@ -1,6 +1,5 @@
 -- `set_row` meets its contract: two words are stored.
 -- Assumes nothing.
-use borrow.Author.Rules.{rules}
 use Rattle.windows.proofs.RowLaws.{row_write}
 use Rattle.windows.proofs.access.set_row.Goals as goal
 

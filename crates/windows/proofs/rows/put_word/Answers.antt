@@ -1,9 +1,7 @@
 -- `put_word` meets its contract. The invariant: the bytes below j are out. The measure is what is left of 8.
 -- Assumes nothing.
-use mathlib.Core.Path.{sym, ◌∙◌}
-use Prim.Native.Nat.{◌-◌}
 use native.Mathlib.Omega.{arith}
-use Rattle.windows.proofs.ByteLaws.{Filled, filled_none, filled_more, filled_all}
+use Rattle.windows.proofs.ByteLaws.{filled_none, filled_more, filled_all}
 use Rattle.windows.proofs.rows.put_word.Goals as goal
 
 pub loop-j-init : goal.loop-j-init

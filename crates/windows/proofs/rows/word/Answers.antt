@@ -2,7 +2,7 @@
 -- Assumes nothing.
 use Prim.Native.Nat.{◌-◌}
 use native.Mathlib.Omega.{arith}
-use Rattle.windows.proofs.ByteLaws.{Joined, joined_none, joined_more, joined_all}
+use Rattle.windows.proofs.ByteLaws.{joined_none, joined_more, joined_all}
 use Rattle.windows.proofs.rows.word.Goals as goal
 
 pub loop-j-init : goal.loop-j-init

@@ -1,8 +1,6 @@
 -- `word` meets its contract. The invariant: the bytes from j on are in. The measure is j.
 -- Assumes nothing.
-use Prim.Native.Nat.{◌-◌}
-use native.Mathlib.Omega.{arith}
-use Rattle.windows.proofs.ByteLaws.{Joined, joined_none, joined_more, joined_all}
+use Rattle.windows.proofs.ByteLaws.{Joined}
 use Rattle.windows.proofs.rows.word.Given as goal
 
 abbrev pub invariant-loop-j : goal.invariant-loop-j

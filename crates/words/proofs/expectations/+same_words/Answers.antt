@@ -1,10 +1,8 @@
 -- `expectations::same_words` meets its contract: it ends since what is left of the first line falls.
 -- Assumes nothing.
 use mathlib.Core.Path.{sym, ap, ◌∙◌}
-use Prim.Native.Nat.{ℕ, ◌<◌}
 use lib.ListN.{length}
 use mathlib.Core.Bool.{not}
-use borrow.Author.Rules.{rules}
 use borrow.Author.Tests.{eqb-false}
 use native.Mathlib.Omega.{arith}
 use Rattle.words.specs.Words.{first_word}

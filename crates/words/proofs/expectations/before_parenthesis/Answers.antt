@@ -1,7 +1,6 @@
 -- `expectations::before_parenthesis` meets its contract.
 -- Assumes nothing.
 use Rattle.words.proofs.ExpectationLaws.{before_is}
-use borrow.Author.Rules.{rules}
 use Rattle.words.proofs.expectations.before_parenthesis.Goals as goal
 
 pub returns : goal.returns

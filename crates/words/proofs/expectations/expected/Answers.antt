@@ -1,7 +1,6 @@
 -- `expectations::expected` meets its contract.
 -- Assumes nothing.
 use Rattle.words.proofs.ExpectationLaws.{expected_is}
-use borrow.Author.Rules.{rules}
 use Rattle.words.proofs.expectations.expected.Goals as goal
 
 pub returns : goal.returns

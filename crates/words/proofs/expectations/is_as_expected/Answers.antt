@@ -5,7 +5,6 @@ use mathlib.Core.List.{List}
 use Prim.Native.Nat.{ℕ}
 use Rattle.words.specs.Words.{words_of}
 use Rattle.words.specs.Expectations.{same_words, is_as_expected}
-use borrow.Author.Rules.{rules}
 use Rattle.words.proofs.expectations.is_as_expected.Goals as goal
 
 pub returns : goal.returns

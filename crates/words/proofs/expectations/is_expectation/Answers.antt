@@ -1,7 +1,6 @@
 -- `expectations::is_expectation` meets its contract.
 -- Assumes nothing.
 use Rattle.words.proofs.ExpectationLaws.{expectation_is}
-use borrow.Author.Rules.{rules}
 use Rattle.words.proofs.expectations.is_expectation.Goals as goal
 
 pub returns : goal.returns

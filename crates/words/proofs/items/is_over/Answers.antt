@@ -3,8 +3,6 @@
 use Rattle.words.proofs.SplitLaws.{same_word}
 use Rattle.words.proofs.ItemLaws.{over_is}
 use Rattle.words.specs.Items.{slash}
-use Prim.Native.Nat.{◌-◌}
-use borrow.Author.Rules.{rules}
 use Rattle.words.proofs.items.is_over.Goals as goal
 
 pub returns : goal.returns

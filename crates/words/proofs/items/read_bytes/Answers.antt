@@ -1,14 +1,12 @@
 -- `items::read_bytes` meets its contract: the items so far are those of the words passed.
 -- Assumes nothing.
-use borrow.Author.Tests.{not-true, not-false}
 use Rattle.words.specs.Words.{first_word}
 use Rattle.words.specs.Items.{byte_item}
-use Rattle.words.proofs.ItemLaws.{Reading, reading_none, reading_over, reading_wrong, reading_full, reading_more, over_there}
+use Rattle.words.proofs.ItemLaws.{reading_none, reading_over, reading_wrong, reading_full, reading_more, over_there}
 use Rattle.words.proofs.ItemLaws.{not_over}
-use borrow.Author.Rules.{rules}
 use native.Mathlib.Omega.{arith}
 use lib.ListN.{length, length-set, length-drop}
-use Prim.Native.Nat.{◌-◌, ◌≤◌}
+use Prim.Native.Nat.{◌≤◌}
 use mathlib.Core.Path.{◌≡◌, refl, sym, ap, ◌∙◌}
 use Rattle.words.proofs.items.read_bytes.Goals as goal
 

@@ -2,7 +2,6 @@
 -- Assumes nothing.
 use Rattle.words.specs.Numbers.{digit_of}
 use borrow.Author.Tests.{lt-ltb, le-ltb}
-use borrow.Author.Rules.{rules}
 use Rattle.words.proofs.numbers.digit.Goals as goal
 
 pub returns-then-byte-lt48 : goal.returns-then-byte-lt48
@@ -21,12 +20,12 @@ pub returns-then-byte-lt71 : goal.returns-then-byte-lt71
 unfolding digit_of
 returns-then-byte-lt71 c =
     simp (
-  le-ltb _ _ c.if-byte-lt48.false,
-  le-ltb _ _ c.if-byte-lt58.false,
-  le-ltb _ _
-      c.if-byte-lt65.false,
-  lt-ltb _ _ c.if-byte-lt71.true,
-)
+      le-ltb _ _ c.if-byte-lt48.false,
+      le-ltb _ _ c.if-byte-lt58.false,
+      le-ltb _ _
+          c.if-byte-lt65.false,
+      lt-ltb _ _ c.if-byte-lt71.true,
+    )
 
 pub returns-then-byte-lt97 : goal.returns-then-byte-lt97
 unfolding digit_of

@@ -1,7 +1,6 @@
 -- `numbers::hexadecimal` meets its contract.
 -- Assumes nothing.
 use Rattle.words.proofs.NumberLaws.{too_many, few_enough}
-use borrow.Author.Rules.{rules}
 use Rattle.words.proofs.numbers.hexadecimal.Goals as goal
 
 pub returns-then-most-word : goal.returns-then-most-word

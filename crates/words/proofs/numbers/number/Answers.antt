@@ -3,10 +3,9 @@
 use Rattle.words.proofs.NumberLaws.{onward, capped_small, small_product, number_is, number_none, digit_more, digit_none}
 use Rattle.words.proofs.NumberLaws.{onward_ends}
 use native.Mathlib.Omega.{arith}
-use borrow.Author.Rules.{rules}
-use lib.ListN.{length, drop}
-use Prim.Native.Nat.{◌+◌, ◌*◌, ◌-◌, ◌≤◌}
-use mathlib.Core.Path.{◌≡◌, refl, sym, ap, subst, ◌∙◌}
+use lib.ListN.{drop}
+use Prim.Native.Nat.{◌+◌, ◌*◌, ◌≤◌}
+use mathlib.Core.Path.{refl, sym, ap, subst, ◌∙◌}
 use Rattle.words.proofs.numbers.number.Goals as goal
 
 pub returns-then-word-eq0 : goal.returns-then-word-eq0

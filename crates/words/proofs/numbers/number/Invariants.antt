@@ -1,12 +1,9 @@
 -- `numbers::number` meets its contract: what the rest of the word makes of the number so far is the word's number.
 -- Assumes nothing.
-use Rattle.words.proofs.NumberLaws.{onward, capped_small, small_product, number_is, number_none, digit_more, digit_none}
-use Rattle.words.proofs.NumberLaws.{onward_ends}
-use native.Mathlib.Omega.{arith}
-use borrow.Author.Rules.{rules}
+use Rattle.words.proofs.NumberLaws.{onward}
 use lib.ListN.{length, drop}
-use Prim.Native.Nat.{◌+◌, ◌*◌, ◌-◌, ◌≤◌}
-use mathlib.Core.Path.{◌≡◌, refl, sym, ap, subst, ◌∙◌}
+use Prim.Native.Nat.{◌-◌, ◌≤◌}
+use mathlib.Core.Path.{◌≡◌}
 use Rattle.words.proofs.numbers.number.Given as goal
 
 abbrev pub invariant-loop-i : goal.invariant-loop-i

@@ -6,7 +6,6 @@ use mathlib.Core.List.{List}
 use mathlib.Core.Path.{sym, ap, ◌∙◌}
 use Prim.Native.Nat.{ℕ}
 use Rattle.words.proofs.NumberLaws.{minus_is, plus_is}
-use borrow.Author.Rules.{rules}
 use Rattle.words.proofs.numbers.signed.Goals as goal
 
 pub returns-then-first_byte-eq45 : goal.returns-then-first_byte-eq45

@@ -3,7 +3,6 @@
 use Rattle.words.specs.Words.{after_word}
 use lib.ListN.{drop}
 use mathlib.Core.Path.{ap, ◌∙◌}
-use borrow.Author.Rules.{rules}
 use Rattle.words.proofs.split.after_word.Goals as goal
 
 pub returns : goal.returns

@@ -1,7 +1,6 @@
 -- `split::content` meets its contract.
 -- Assumes nothing.
 use Rattle.words.proofs.WordLaws.{content_is}
-use borrow.Author.Rules.{rules}
 use Rattle.words.proofs.split.content.Goals as goal
 
 pub returns : goal.returns

@@ -1,7 +1,6 @@
 -- `split::first_word` meets its contract.
 -- Assumes nothing.
 use Rattle.words.proofs.WordLaws.{first_word_is}
-use borrow.Author.Rules.{rules}
 use Rattle.words.proofs.split.first_word.Goals as goal
 
 pub returns : goal.returns

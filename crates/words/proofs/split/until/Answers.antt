@@ -1,12 +1,8 @@
 -- `split::until` meets its contract: the bytes passed and those in front of what is left are the bytes in front.
 -- Assumes nothing.
-use mathlib.Core.Path.{◌≡◌}
 use mathlib.Core.Bool.{false}
-use Prim.Native.Nat.{◌+◌, ◌-◌, ◌≤◌}
 use native.Mathlib.Omega.{arith}
-use lib.ListN.{length, drop}
 use borrow.Author.Tests.{eqb-false, ne_eqb}
-use Rattle.words.specs.Words.{run}
 use Rattle.words.proofs.RunLaws.{run_more, run_stops, run_ends}
 use Rattle.words.proofs.split.until.Goals as goal
 
@@ -28,12 +24,11 @@ pub loop-i-smaller : goal.loop-i-smaller
 loop-i-smaller c = omega arith
 
 pub loop-i-preserved : goal.loop-i-preserved
-loop-i-preserved c =
-    (
-      omega arith,
-      run_more false _ c.args.line.now _ c.loop-i-test.true
-          (ne_eqb _ _ c.if-line-i.false) c.loop-i.invariant.1,
-    )
+loop-i-preserved c = (
+  omega arith,
+  run_more false _ c.args.line.now _ c.loop-i-test.true
+      (ne_eqb _ _ c.if-line-i.false) c.loop-i.invariant.1,
+)
 
 pub returns : goal.returns
 returns c =

@@ -1,7 +1,6 @@
 -- `split::without_return` meets its contract.
 -- Assumes nothing.
 use Rattle.words.proofs.WordLaws.{return_none, return_cut, return_kept}
-use borrow.Author.Rules.{rules}
 use Rattle.words.proofs.split.without_return.Goals as goal
 
 pub returns-then-n-eq0 : goal.returns-then-n-eq0

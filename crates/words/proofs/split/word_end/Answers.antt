@@ -1,7 +1,6 @@
 -- `split::word_end` meets its contract.
 -- Assumes nothing.
 use Rattle.words.proofs.WordLaws.{word_end_is}
-use borrow.Author.Rules.{rules}
 use Rattle.words.proofs.split.word_end.Goals as goal
 
 pub returns : goal.returns

@@ -1,0 +1,63 @@
+-- `answers::end_access` meets its contract: a window's attribute and lines, a mapping's entry, or the end of the line.
+-- Assumes nothing.
+use Prim.Native.Nat.{ℕ}
+use native.Mathlib.Omega.{arith}
+use mathlib.Core.Path.{◌≡◌, sym, ap, subst, ◌∙◌}
+use Rattle.profile.specs.declared.Entry.{Entry}
+use Rattle.profile.specs.declared.Home.TheVariants.{Window}
+use Rattle.profile.specs.Entries.{entry_of}
+use Rattle.profile.proofs.EntryRanges.{InRange, WindowRange, in_range}
+use Rattle.words.specs.Ascii.{ascii}
+use Rattle.answers.specs.Answers.{newline, entry_text}
+use Rattle.texts.proofs.PutLaws.{put_then, put_two, put_as}
+use Rattle.answers.proofs.AnswerLaws.{no_words, lines_before}
+use borrow.Author.Rules.{rules}
+use Rattle.answers.proofs.end_access.Goals as goal
+
+-- a window that was found is one of the papers
+window : (index sub row w s : ℕ) (e : Entry) → e ≡ entry_of index sub → e.home ≡ Window row w s → WindowRange (entry_of index sub) row w s
+window index sub row w s e found is =
+    subst (InRange (entry_of index sub)) (ap (λ (x : Entry). x.home) (sym found) ∙ is) (in_range index sub)
+
+pub overflow_sub-place : goal.overflow_sub-place
+overflow_sub-place c = (window c.args.index c.args.sub _ _ _ _ c.find-entry.ensures c.in-Window.is).first
+
+pub overflow_mul-width : goal.overflow_mul-width
+overflow_mul-width c =
+    let w = c.home-1.given.0 in
+    omega (
+      arith,
+      (window c.args.index c.args.sub _ _ _ _ c.find-entry.ensures c.in-Window.is).last,
+      lines_before w.1.0 w.1.1.0,
+    )
+
+pub overflow_add-width : goal.overflow_add-width
+overflow_add-width c =
+    let w = c.home-1.given.0 in
+    omega (
+      arith,
+      (window c.args.index c.args.sub _ _ _ _ c.find-entry.ensures c.in-Window.is).last,
+      lines_before w.1.0 w.1.1.0,
+    )
+
+pub overflow_mul-width-in-Window : goal.overflow_mul-width-in-Window
+overflow_mul-width-in-Window c = omega (arith, (window c.args.index c.args.sub _ _ _ _ c.find-entry.ensures c.in-Window.is).last)
+
+pub returns-in-Window : goal.returns-in-Window
+returns-in-Window c =
+    let is = ap (λ (e : Entry). e.home) (sym c.find-entry.ensures) ∙ c.in-Window.is in
+    put_as (ap entry_text is) (put_two (ascii ")") newline
+    (put_then c.put_all-first.ensures (put_then c.put_attribute-second.ensures c.put_lines-last.ensures))
+    c.put_all.ensures)
+
+pub returns-in-MappingEntry : goal.returns-in-MappingEntry
+returns-in-MappingEntry c =
+    let is = ap (λ (e : Entry). e.home) (sym c.find-entry.ensures) ∙ c.in-MappingEntry.is in
+    put_as (ap entry_text is)
+    (put_two (ascii ")") newline (put_then c.put_all-first-in-MappingEntry.ensures c.put_mapping-last.ensures)
+    c.put_all-in-MappingEntry.ensures)
+
+pub returns-in_default : goal.returns-in_default
+returns-in_default c =
+    let is = ap (λ (e : Entry). entry_text e.home) (sym c.find-entry.ensures) in
+    put_as (is ∙ no_words c.find-entry.result.home c.in_default.keys3) c.put.ensures

@@ -1,0 +1,10 @@
+-- `answers::put_plain` meets its contract.
+-- Assumes nothing.
+use Rattle.answers.specs.Answers.{plain_line}
+use Rattle.texts.proofs.PutLaws.{put_then}
+use borrow.Author.Rules.{rules}
+use Rattle.answers.proofs.put_plain.Goals as goal
+
+pub returns : goal.returns
+unfolding plain_line
+returns c = put_then c.put_number-next.ensures c.end.ensures

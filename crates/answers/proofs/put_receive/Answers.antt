@@ -1,0 +1,10 @@
+-- `answers::put_receive` meets its contract.
+-- Assumes nothing.
+use Rattle.answers.specs.Answers.{receive_line}
+use Rattle.texts.proofs.PutLaws.{put_then}
+use borrow.Author.Rules.{rules}
+use Rattle.answers.proofs.put_receive.Goals as goal
+
+pub returns : goal.returns
+unfolding receive_line
+returns c = put_then c.put_number-next.ensures c.end_receive.ensures

@@ -1,0 +1,13 @@
+-- `answers::put_sample` meets its contract.
+-- Assumes nothing.
+use Rattle.answers.specs.Answers.{sample_line}
+use Rattle.texts.proofs.PutLaws.{put_then}
+use borrow.Author.Rules.{rules}
+use Rattle.answers.proofs.put_sample.Goals as goal
+
+pub returns : goal.returns
+unfolding sample_line
+returns c =
+    put_then (put_then (put_then
+    (put_then (put_then c.put_number-first.ensures c.put_all-second.ensures) c.put_bytes-third.ensures)
+    c.put_all-fourth.ensures) c.put_places-last.ensures) c.end.ensures
