@@ -24,20 +24,18 @@ overflow_sub-place c = (window c.args.index c.args.sub _ _ _ _ c.find-entry.ensu
 
 pub overflow_mul-width : goal.overflow_mul-width
 overflow_mul-width c =
-    let w = c.home-1.given.0 in
     omega (
       arith,
       (window c.args.index c.args.sub _ _ _ _ c.find-entry.ensures c.in-Window.is).last,
-      lines_before w.1.0 w.1.1.0,
+      lines_before c.in-Window.width c.in-Window.place,
     )
 
 pub overflow_add-width : goal.overflow_add-width
 overflow_add-width c =
-    let w = c.home-1.given.0 in
     omega (
       arith,
       (window c.args.index c.args.sub _ _ _ _ c.find-entry.ensures c.in-Window.is).last,
-      lines_before w.1.0 w.1.1.0,
+      lines_before c.in-Window.width c.in-Window.place,
     )
 
 pub overflow_mul-width-in-Window : goal.overflow_mul-width-in-Window
@@ -60,4 +58,4 @@ returns-in-MappingEntry c =
 pub returns-in_default : goal.returns-in_default
 returns-in_default c =
     let is = ap (λ (e : Entry). entry_text e.home) (sym c.find-entry.ensures) in
-    put_as (is ∙ no_words c.find-entry.result.home c.in_default.keys3) c.put.ensures
+    let h = c.in_default.not-Window in let k = c.in_default.not-MappingEntry in ?

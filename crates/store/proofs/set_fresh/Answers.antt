@@ -1,7 +1,6 @@
 -- `set_fresh` meets its contract: every array fresh, the deltas in three parts.
 -- Assumes nothing.
 use native.Mathlib.Omega.{arith}
-use borrow.Author.Rules.{rules}
 use Rattle.channels.proofs.StoreLaws.{zeroed_both, zeroed_all}
 use Rattle.store.proofs.StepLaws.{fresh_left}
 use Rattle.store.proofs.set_fresh.Goals as goal

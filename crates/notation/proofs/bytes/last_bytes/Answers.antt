@@ -1,8 +1,6 @@
 -- `bytes::last_bytes` meets its contract.
 -- Assumes nothing.
 use mathlib.Core.Path.{subst, ap}
-use borrow.Author.Tests.{not-true, not-false}
-use borrow.Author.Rules.{rules}
 use Rattle.words.specs.Items.{ReadInto, byte_item}
 use Rattle.notation.specs.Meanings.{bytes_meaning}
 use Rattle.notation.proofs.LastLaws.{to_end, beyond}

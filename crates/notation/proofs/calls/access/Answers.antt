@@ -4,9 +4,7 @@ use Rattle.words.specs.Ascii.{ascii}
 use Rattle.words.proofs.SplitLaws.{same_word}
 use Rattle.notation.proofs.MeaningLaws.{says_as}
 use Rattle.notation.proofs.AccessLaws.{access_call, access_byte, access_read, access_data, access_write}
-use borrow.Author.Tests.{not-true, not-false}
 use mathlib.Core.Path.{sym, ◌∙◌}
-use borrow.Author.Rules.{rules}
 use Rattle.notation.proofs.calls.access.Goals as goal
 
 pub front-requires : goal.front-requires

@@ -1,9 +1,7 @@
 -- `calls::command` meets its contract.
 -- Assumes nothing.
 use Rattle.notation.proofs.MeaningLaws.{command_small, command_small2, command_more, command_is}
-use borrow.Author.Tests.{not-true, not-false}
 use mathlib.Core.Path.{sym}
-use borrow.Author.Rules.{rules}
 use Rattle.notation.proofs.calls.command.Goals as goal
 
 pub returns-then-code-gt255 : goal.returns-then-code-gt255

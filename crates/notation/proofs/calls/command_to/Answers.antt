@@ -1,19 +1,17 @@
 -- `calls::command_to` meets its contract.
 -- Assumes nothing.
 use Rattle.notation.proofs.MeaningLaws.{named_all, named_small, named_more, named_is}
-use borrow.Author.Tests.{not-true, not-false}
 use mathlib.Core.Path.{sym}
-use borrow.Author.Rules.{rules}
 use Rattle.notation.proofs.calls.command_to.Goals as goal
 
 pub returns-then-is_blank : goal.returns-then-is_blank
 returns-then-is_blank c =
     λ payload bytes numbers events. record {
-  is = sym
-      (named_all c.args.code c.args.rest.now c.is_blank.result
-      c.is_blank.ensures c.if-is_blank.true);
-  fits = tt;
-}
+      is = sym
+          (named_all c.args.code c.args.rest.now c.is_blank.result
+          c.is_blank.ensures c.if-is_blank.true);
+      fits = tt;
+    }
 
 pub returns-then-node-gt255 : goal.returns-then-node-gt255
 returns-then-node-gt255 c =

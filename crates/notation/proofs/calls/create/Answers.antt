@@ -1,9 +1,7 @@
 -- `calls::create` meets its contract.
 -- Assumes nothing.
 use Rattle.notation.proofs.MeaningLaws.{create_small, create_more, create_is}
-use borrow.Author.Tests.{not-true, not-false}
 use mathlib.Core.Path.{sym}
-use borrow.Author.Rules.{rules}
 use Rattle.notation.proofs.calls.create.Goals as goal
 
 pub returns-then-node-gt255 : goal.returns-then-node-gt255

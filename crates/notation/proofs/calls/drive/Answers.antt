@@ -14,20 +14,19 @@ use lib.IntN.{ℤ}
 use Rattle.profile.specs.Calls as Doc
 use Rattle.words.specs.Words.{words_of}
 use Rattle.notation.specs.Meanings.Meaning.{call}
-use borrow.Author.Rules.{rules}
 use Rattle.notation.proofs.calls.drive.Goals as goal
 
 pub returns-then-is_blank : goal.returns-then-is_blank
 returns-then-is_blank c =
     λ payload events. record {
-  is = ap
-      (λ (l : List ℕ). call (Doc.direct (Doc.Plain.drive (take 16 l) (take 8 c.args.numbers.now))))
-      c.requires.0 ∙ ap (λ (l : List ℤ). call (Doc.direct (Doc.Plain.drive (take 16 (replicate 64 0)) (take 8 l))))
-      c.requires.1 ∙ sym
-      (drive_alone c.args.rest.now c.is_blank.result c.is_blank.ensures
-      c.if-is_blank.true);
-  fits = (omega arith, omega arith);
-}
+      is = ap
+          (λ (l : List ℕ). call (Doc.direct (Doc.Plain.drive (take 16 l) (take 8 c.args.numbers.now))))
+          c.requires.0 ∙ ap (λ (l : List ℤ). call (Doc.direct (Doc.Plain.drive (take 16 (replicate 64 0)) (take 8 l))))
+          c.requires.1 ∙ sym
+          (drive_alone c.args.rest.now c.is_blank.result c.is_blank.ensures
+          c.if-is_blank.true);
+      fits = (omega arith, omega arith);
+    }
 
 pub back-more-requires : goal.back-more-requires
 back-more-requires c =

@@ -8,8 +8,6 @@ use Rattle.notation.proofs.MeaningLaws.{blank, not_blank}
 use native.Mathlib.Omega.{arith}
 use mathlib.Core.Path.{subst, sym, ap}
 use lib.ListN.{take}
-use borrow.Author.Tests.{not-true, not-false}
-use borrow.Author.Rules.{rules}
 use Rattle.notation.proofs.calls.driven.Goals as goal
 
 pub back-requires : goal.back-requires

@@ -4,10 +4,8 @@ use Rattle.profile.specs.Calls as Doc
 use Rattle.words.specs.Ascii.{ascii}
 use Rattle.words.proofs.SplitLaws.{same_word}
 use Rattle.notation.proofs.MeaningLaws.{says_as, fault_more, fault_internal, fault_lost, fault_none}
-use borrow.Author.Tests.{not-true, not-false}
 use mathlib.Core.Bool.{cond}
 use mathlib.Core.Path.{sym, ◌∙◌}
-use borrow.Author.Rules.{rules}
 use Rattle.notation.proofs.calls.fault.Goals as goal
 
 pub returns-then-not-is_blank : goal.returns-then-not-is_blank

@@ -7,7 +7,6 @@ use Rattle.notation.specs.Promises.{SaysPlain}
 use Rattle.words.proofs.SplitLaws.{same_word}
 use Rattle.notation.proofs.MeaningLaws.{yes, no, says_as}
 use mathlib.Core.Path.{sym, ◌∙◌}
-use borrow.Author.Rules.{rules}
 use Rattle.notation.proofs.calls.named_command.Goals as goal
 
 pub returns-then-same : goal.returns-then-same

@@ -6,7 +6,6 @@ use Rattle.notation.specs.Meanings.{plain_meaning}
 use Rattle.words.proofs.SplitLaws.{same_word}
 use Rattle.notation.proofs.MeaningLaws.{yes, no, says_as}
 use mathlib.Core.Path.{sym, ◌∙◌}
-use borrow.Author.Rules.{rules}
 use Rattle.notation.proofs.calls.plain_call.Goals as goal
 
 pub returns-then-same : goal.returns-then-same

@@ -11,7 +11,6 @@ use mathlib.Core.Path.{subst, sym, ap, ◌∙◌}
 use lib.ListN.{take}
 use Prim.Native.Nat.{ℕ}
 use Rattle.words.specs.Words.{words_of}
-use borrow.Author.Rules.{rules}
 use Rattle.notation.proofs.calls.sample.Goals as goal
 
 pub back-more-requires : goal.back-more-requires
@@ -34,16 +33,15 @@ returns-then-is_blank c =
     }
 
 pub sampled-requires : goal.sampled-requires
-sampled-requires c =
-    (
-      omega (
-        arith,
-        (subst (λ (x : Items). ReadInto byte_item c.args.rest.now c.read_bytes.new.out x)
-            c.in-Read.is c.read_bytes.ensures).room,
-        c.read_bytes.auto.out,
-      ),
-      c.requires,
-    )
+sampled-requires c = (
+  omega (
+    arith,
+    (subst (λ (x : Items). ReadInto byte_item c.args.rest.now c.read_bytes.new.out x)
+        c.in-Read.is c.read_bytes.ensures).room,
+    c.read_bytes.auto.out,
+  ),
+  c.requires,
+)
 
 pub returns-in-Unknown : goal.returns-in-Unknown
 returns-in-Unknown c =

@@ -5,7 +5,6 @@ use mathlib.Core.List.{List}
 use Prim.Native.Nat.{ℕ}
 use native.Mathlib.Omega.{arith}
 use lib.ListN.{length, take}
-use borrow.Author.Rules.{rules}
 use Rattle.profile.specs.Calls as Doc
 use Rattle.words.specs.Words.{words_of}
 use Rattle.words.specs.Items.{ReadInto, byte_item, number_item, items_of}

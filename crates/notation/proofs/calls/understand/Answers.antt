@@ -1,7 +1,6 @@
 -- `calls::understand` meets its contract.
 -- Assumes nothing.
 use mathlib.Core.Path.{sym, ◌∙◌}
-use borrow.Author.Rules.{rules}
 use Rattle.words.specs.Ascii.{ascii}
 use Rattle.words.specs.Words.{is_word}
 use Rattle.notation.specs.Meanings.{words_meaning}

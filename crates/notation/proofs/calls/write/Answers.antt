@@ -5,7 +5,6 @@ use mathlib.Core.List.{List}
 use Prim.Native.Nat.{ℕ}
 use native.Mathlib.Omega.{arith}
 use lib.ListN.{length}
-use borrow.Author.Rules.{rules}
 use Rattle.profile.specs.Calls as Doc
 use Rattle.notation.specs.Promises.{ReadLast}
 use Rattle.notation.proofs.LastLaws.{last_found, last_missing}

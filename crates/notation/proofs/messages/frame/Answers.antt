@@ -4,7 +4,6 @@ use mathlib.Core.Path.{◌≡◌, subst, sym, ap, ◌∙◌}
 use mathlib.Core.Bool.{Bool, cond}
 use native.Mathlib.Omega.{arith}
 use lib.ListN.{length, take}
-use borrow.Author.Rules.{rules}
 use Rattle.profile.specs.Calls as Doc
 use Rattle.notation.specs.Meanings.Meaning.{call}
 use Rattle.notation.specs.Promises.{ReadLast}

@@ -6,7 +6,6 @@ use Rattle.words.specs.Words.{words_of}
 use Rattle.notation.specs.Meanings.{receive_meaning, transmit_meaning}
 use Rattle.notation.proofs.MeaningLaws.{says_as}
 use Rattle.notation.proofs.MessageLaws.{message_none, message_is}
-use borrow.Author.Rules.{rules}
 use Rattle.notation.proofs.messages.message_call.Goals as goal
 
 pub returns-then-number : goal.returns-then-number

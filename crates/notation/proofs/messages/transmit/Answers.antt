@@ -5,14 +5,13 @@ use mathlib.Core.List.{List}
 use Prim.Native.Nat.{ℕ}
 use native.Mathlib.Omega.{arith}
 use lib.ListN.{take}
-use borrow.Author.Tests.{not-true, not-false}
+use borrow.Author.Tests.{not-false}
 use Rattle.profile.specs.Calls as Doc
 use Rattle.words.specs.Items.{slash}
 use Rattle.notation.specs.Meanings.Meaning.{call}
 use Rattle.words.proofs.SplitLaws.{same_word}
 use Rattle.notation.proofs.MeaningLaws.{says_as}
 use Rattle.notation.proofs.MessageLaws.{transmit_alone, transmit_bytes, transmit_more, transmit_empty}
-use borrow.Author.Rules.{rules}
 use Rattle.std.proofs.Common.{ap}
 use mathlib.Core.Bool.{not}
 use Rattle.std.proofs.Common.{ap}

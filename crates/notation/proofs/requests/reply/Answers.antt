@@ -3,7 +3,6 @@
 use mathlib.Core.Path.{◌≡◌, subst}
 use native.Mathlib.Omega.{arith}
 use lib.ListN.{length, take}
-use borrow.Author.Rules.{rules}
 use Rattle.profile.specs.Calls as Doc
 use Rattle.notation.specs.Promises.{ReadLast}
 use Rattle.notation.proofs.LastLaws.{last_found, last_missing}
