@@ -13,14 +13,15 @@ use Rattle.profile.specs.contracts.Home.{the_type}
 use Rattle.answers.specs.Answers.{newline, entry_text}
 
 -- at every other entry the line ends
-pub no_words : (e : Home) → OneOf (0 ∷ 2 ∷ 3 ∷ 4 ∷ 5 ∷ []) (tag_of the_type e) → entry_text e ≡ newline
-no_words (Constant v) h = refl
-no_words (Window row w s) h = absurd (miss (0 ∷ 2 ∷ 3 ∷ 4 ∷ 5 ∷ []) 1 tt h)
-no_words (InputChannel index n) h = refl
-no_words (OutputChannel index n) h = refl
-no_words Sources h = refl
-no_words (Device index) h = refl
-no_words (MappingEntry m sub) h = absurd (miss (0 ∷ 2 ∷ 3 ∷ 4 ∷ 5 ∷ []) 6 tt h)
+pub no_words : (e : Home) → ((row w s : ℕ) → e ≡ Window row w s → ⊥) → ((m sub : ℕ) → e ≡ MappingEntry m sub → ⊥)
+    → entry_text e ≡ newline
+no_words (Constant v) f g = refl
+no_words (Window row w s) f g = absurd (f row w s refl)
+no_words (InputChannel index n) f g = refl
+no_words (OutputChannel index n) f g = refl
+no_words Sources f g = refl
+no_words (Device index) f g = refl
+no_words (MappingEntry m sub) f g = absurd (g m sub refl)
 
 -- the lines before a window of width w end no later than the window
 pub lines_before : (w s : ℕ) → w * (s - 1) ≤ w * s

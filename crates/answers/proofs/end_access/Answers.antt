@@ -58,4 +58,4 @@ returns-in-MappingEntry c =
 pub returns-in_default : goal.returns-in_default
 returns-in_default c =
     let is = ap (λ (e : Entry). entry_text e.home) (sym c.find-entry.ensures) in
-    let h = c.in_default.not-Window in let k = c.in_default.not-MappingEntry in ?
+    put_as (is ∙ no_words c.find-entry.result.home c.in_default.not-Window c.in_default.not-MappingEntry) c.put.ensures
