@@ -4,7 +4,6 @@ use Rattle.words.specs.Ascii.{ascii}
 use Rattle.answers.specs.Answers.{newline, end_text}
 use Rattle.texts.proofs.PutLaws.{put_then, put_two}
 use borrow.Author.Tests.{eq-eqb, ne_eqb}
-use borrow.Author.Rules.{rules}
 use Rattle.answers.proofs.end.Goals as goal
 
 pub returns-then-number-eq0 : goal.returns-then-number-eq0

@@ -11,7 +11,6 @@ use Rattle.words.specs.Ascii.{ascii}
 use Rattle.answers.specs.Answers.{newline, entry_text}
 use Rattle.texts.proofs.PutLaws.{put_then, put_two, put_as}
 use Rattle.answers.proofs.AnswerLaws.{no_words, lines_before}
-use borrow.Author.Rules.{rules}
 use Rattle.answers.proofs.end_access.Goals as goal
 
 -- a window that was found is one of the papers

@@ -1,10 +1,9 @@
 -- `answers::end_frame` meets its contract.
 -- Assumes nothing.
 use lib.Dec.{eqb}
-use borrow.Author.Tests.{eq-eqb, ne_eqb, not-true, not-false}
+use borrow.Author.Tests.{eq-eqb, ne_eqb}
 use Rattle.answers.specs.Answers.{frame_end}
 use Rattle.texts.proofs.PutLaws.{put_yes, put_no}
-use borrow.Author.Rules.{rules}
 use Rattle.answers.proofs.end_frame.Goals as goal
 
 pub returns-then-number-ne0 : goal.returns-then-number-ne0

@@ -1,9 +1,7 @@
 -- `answers::end_receive` meets its contract.
 -- Assumes nothing.
-use borrow.Author.Tests.{not-true, not-false}
 use Rattle.answers.specs.Answers.{receive_end}
 use Rattle.texts.proofs.PutLaws.{put_yes, put_no}
-use borrow.Author.Rules.{rules}
 use Rattle.answers.proofs.end_receive.Goals as goal
 
 pub returns-then-not-active : goal.returns-then-not-active

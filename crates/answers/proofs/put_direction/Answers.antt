@@ -4,7 +4,6 @@ use lib.Dec.{ltb}
 use borrow.Author.Tests.{lt-ltb, le-ltb}
 use Rattle.answers.specs.Answers.{direction_text}
 use Rattle.texts.proofs.PutLaws.{put_yes, put_no}
-use borrow.Author.Rules.{rules}
 use Rattle.answers.proofs.put_direction.Goals as goal
 
 pub returns-then-mapping-lt4 : goal.returns-then-mapping-lt4

@@ -5,7 +5,6 @@ use lib.Dec.{eqb}
 use Rattle.words.specs.Ascii.{ascii}
 use Rattle.answers.specs.Answers.{newline, judged_text}
 use Rattle.texts.proofs.PutLaws.{put_none, put_then, put_two, put_yes, put_no}
-use borrow.Author.Rules.{rules}
 use Rattle.answers.proofs.put_judged.Goals as goal
 
 pub returns-then-met-unmet : goal.returns-then-met-unmet

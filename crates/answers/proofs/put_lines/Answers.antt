@@ -3,7 +3,6 @@
 use Rattle.answers.specs.Answers.{lines_text}
 use Rattle.texts.proofs.PutLaws.{put_then}
 use borrow.Author.Tests.{eq-eqb, ne_eqb}
-use borrow.Author.Rules.{rules}
 use Rattle.answers.proofs.put_lines.Goals as goal
 
 pub returns-then-from-to : goal.returns-then-from-to

@@ -2,8 +2,6 @@
 -- Assumes nothing.
 use Rattle.answers.specs.Answers.{number_text}
 use borrow.Author.Tests.{lt-ltb, le-ltb}
-use Prim.Native.Nat.{◌-◌}
-use borrow.Author.Rules.{rules}
 use Rattle.answers.proofs.put_number.Goals as goal
 
 pub returns-then-number-lt10 : goal.returns-then-number-lt10

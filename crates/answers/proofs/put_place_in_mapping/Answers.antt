@@ -4,7 +4,6 @@ use lib.Dec.{eqb}
 use borrow.Author.Tests.{eq-eqb, ne_eqb}
 use Rattle.answers.specs.Answers.{place_in_mapping}
 use Rattle.texts.proofs.PutLaws.{put_then, put_yes, put_no}
-use borrow.Author.Rules.{rules}
 use Rattle.answers.proofs.put_place_in_mapping.Goals as goal
 
 pub returns-then-place-eq0 : goal.returns-then-place-eq0

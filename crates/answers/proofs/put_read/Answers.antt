@@ -3,7 +3,6 @@
 use Rattle.answers.specs.Answers.{read_line}
 use Rattle.texts.proofs.PutLaws.{put_then}
 use borrow.Author.Tests.{eq-eqb, ne_eqb}
-use borrow.Author.Rules.{rules}
 use Rattle.answers.proofs.put_read.Goals as goal
 
 pub returns-then-number-ne0 : goal.returns-then-number-ne0

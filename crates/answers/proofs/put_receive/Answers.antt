@@ -2,7 +2,6 @@
 -- Assumes nothing.
 use Rattle.answers.specs.Answers.{receive_line}
 use Rattle.texts.proofs.PutLaws.{put_then}
-use borrow.Author.Rules.{rules}
 use Rattle.answers.proofs.put_receive.Goals as goal
 
 pub returns : goal.returns

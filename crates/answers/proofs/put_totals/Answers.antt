@@ -3,7 +3,6 @@
 use Rattle.words.specs.Ascii.{ascii}
 use Rattle.answers.specs.Answers.{newline, totals_text}
 use Rattle.texts.proofs.PutLaws.{put_then, put_two}
-use borrow.Author.Rules.{rules}
 use Rattle.answers.proofs.put_totals.Goals as goal
 
 pub returns : goal.returns

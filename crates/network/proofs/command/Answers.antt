@@ -3,8 +3,6 @@
 use mathlib.Core.Path.{refl, sym, ap, subst, ◌∙◌}
 use mathlib.Core.Bool.{not}
 use Prim.Native.Nat.{ℕ}
-use borrow.Author.Tests.{not-true, not-false}
-use borrow.Author.Rules.{rules}
 use Rattle.profile.specs.declared.Node.{Node}
 use Rattle.profile.specs.Refusals.{refusal}
 use Rattle.profile.specs.Replies.{refuse}

@@ -1,6 +1,5 @@
 -- `follow_fault` meets its contract: where fault neither begins nor ends nothing moves.
 -- Assumes nothing.
-use borrow.Author.Rules.{rules}
 use Rattle.lines.proofs.OutputLaws as line
 use Rattle.analogue_outputs.proofs.StoreLaws as channel
 use Rattle.network.proofs.follow_fault.Goals as goal

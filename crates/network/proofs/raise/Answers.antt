@@ -1,7 +1,6 @@
 -- raise: every machine hears the cause, and the outputs move where fault begins.
 -- Assumes nothing.
 use mathlib.Core.Path.{refl, ap, ◌∙◌}
-use borrow.Author.Rules.{rules}
 use Rattle.profile.specs.Nodes.{fault, raise_node}
 use Rattle.store.specs.View.{node_octets, node_flags, held, parts_of}
 use Rattle.store.proofs.KeepLaws.{taken}

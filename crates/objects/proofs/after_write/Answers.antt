@@ -2,7 +2,6 @@
 -- Assumes nothing.
 use mathlib.Core.Path.{◌≡◌, subst}
 use Prim.Native.Nat.{ℕ}
-use borrow.Author.Rules.{rules}
 use Rattle.profile.specs.declared.Home.{Home}
 use Rattle.store.specs.Promises.{Writable}
 use Rattle.store.proofs.StepLaws.{window_stepped, input_stepped, output_stepped, setting_stepped, mapping_stepped}
@@ -13,19 +12,19 @@ writable : {h x : Home} (v : ℕ) → h ≡ x → Writable h v → Writable x v
 writable v q p = subst (λ (y : Home). Writable y v) q p
 
 pub write-requires : goal.write-requires
-write-requires c = let p = writable _ c.in-Window.is c.requires.writable in record { words_len = c.requires.sized.words; covers = p.0; le_row = p.1; row_bound = p.2; value_bound = p.3; }
+write-requires c = let p = writable _ c.in-Window.is c.requires.writable in record { words_len = c.requires.sized.words; covers = p.0; le_row = p.1; row_bound = p.2; value_bound = p.3 }
 
 pub write_at-requires : goal.write_at-requires
-write_at-requires c = let s = c.requires.sized in record { octets_len = (s.octets, s.limits, s.deltas); n_bound = writable _ c.in-InputChannel.is c.requires.writable; }
+write_at-requires c = let s = c.requires.sized in record { octets_len = (s.octets, s.limits, s.deltas); n_bound = writable _ c.in-InputChannel.is c.requires.writable }
 
 pub write_at-requires-in-OutputChannel : goal.write_at-requires-in-OutputChannel
-write_at-requires-in-OutputChannel c = let s = c.requires.sized in record { flags_len = (s.flags, s.values); n_bound = writable _ c.in-OutputChannel.is c.requires.writable; }
+write_at-requires-in-OutputChannel c = let s = c.requires.sized in record { flags_len = (s.flags, s.values); n_bound = writable _ c.in-OutputChannel.is c.requires.writable }
 
 pub written-next-requires : goal.written-next-requires
 written-next-requires c = writable _ c.in-Device.is c.requires.writable
 
 pub write-requires-in-MappingEntry : goal.write-requires-in-MappingEntry
-write-requires-in-MappingEntry c = record { deltas_len = c.requires.sized.deltas; m_bound = writable _ c.in-MappingEntry.is c.requires.writable; }
+write-requires-in-MappingEntry c = record { deltas_len = c.requires.sized.deltas; m_bound = writable _ c.in-MappingEntry.is c.requires.writable }
 
 pub returns-in-Constant : goal.returns-in-Constant
 returns-in-Constant c = absurd (writable _ c.in-Constant.is c.requires.writable)

@@ -1,7 +1,6 @@
 -- read: refused, or the value of the entry, with the source bits cleared where they are read.
 -- Assumes nothing.
 use mathlib.Core.Path.{refl, sym, ap, ◌∙◌}
-use borrow.Author.Rules.{rules}
 use Rattle.profile.specs.declared.Entry.{Entry}
 use Rattle.profile.specs.Entries.{home_of}
 use Rattle.profile.specs.Refusals.{refusal, read_refusal}

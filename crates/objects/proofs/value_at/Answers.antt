@@ -1,7 +1,6 @@
 -- `value_at` meets its contract, by where the entry lives.
 -- Assumes nothing.
 use mathlib.Core.Path.{refl, subst}
-use borrow.Author.Rules.{rules}
 use Rattle.profile.specs.Replies.{read_value}
 use Rattle.store.specs.Promises.{Readable}
 use Rattle.profile.specs.declared.Home.TheVariants.{Window}
@@ -10,7 +9,7 @@ use Rattle.objects.proofs.value_at.Goals as goal
 pub read-requires : goal.read-requires
 read-requires c =
     let p : Readable (Window c.in-Window.row c.in-Window.width c.in-Window.sub) = subst Readable c.in-Window.is c.requires in
-    record { covers = p.0; row_bound = p.1; }
+    record { covers = p.0; row_bound = p.1 }
 
 pub input_at-channel-requires : goal.input_at-channel-requires
 input_at-channel-requires c = subst Readable c.in-InputChannel.is c.requires

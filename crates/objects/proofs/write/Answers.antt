@@ -5,7 +5,6 @@ use mathlib.Core.List.{List, ◌++◌}
 use Prim.Native.Nat.{ℕ}
 use Rattle.profile.specs.declared.Entry.{Entry}
 use Rattle.profile.specs.Bytes.{little_endian}
-use borrow.Author.Rules.{rules}
 use Rattle.profile.specs.Nodes.{stopped}
 use Rattle.profile.specs.Entries.{entry_of, home_of}
 use Rattle.profile.specs.Refusals.{first, value_checks}
@@ -49,7 +48,7 @@ returns-then-forbidden-ne0 c =
     let access = rw (c.find-entry.ensures, c.is_stopped.ensures, c.node_at-was.ensures) at
     c.access_refusal-refused.ensures in
     let forbidden = asked_rows a.deltas.now a.bytes.now a.index a.sub _ _ _ c.find-entry.ensures c.number-value.ensures.is
-        c.written_refusal-forbidden.ensures in
+    c.written_refusal-forbidden.ensures in
     left_alone d _ _ (value_refused d a.index a.sub a.bytes.now c.written_refusal-forbidden.result (sym access ∙ c.if-refused-ne0.false) forbidden c.if-forbidden-ne0.true)
 
 pub after_write-requires : goal.after_write-requires
@@ -57,17 +56,20 @@ after_write-requires c =
     let a = c.args in
     let access = rw (c.find-entry.ensures, c.is_stopped.ensures, c.node_at-was.ensures) at
     c.access_refusal-refused.ensures in
-    let allowed = rw c.find-entry.ensures at c.written_refusal-forbidden.ensures in record { sized = record {
+    let allowed = rw c.find-entry.ensures at c.written_refusal-forbidden.ensures in record {
+      sized = record {
         octets = c.lend-arg-2-1.given;
         flags = c.lend-arg-4-1.given;
         words = c.lend-arg-6-1.given;
         limits = c.lend_settings-arg-2-1.given;
         deltas = c.lend_settings-arg-4-1.given;
         values = c.lend-arg-8-1.given;
-      }; writable = rw c.find-entry.ensures
+      };
+      writable = rw c.find-entry.ensures
           (entry_writable (stopped (node_at a.octets.now a.flags.now)) _ _ _ (sym access ∙ c.if-refused-ne0.false) _
           (held_by a.deltas.now (home_of a.index a.sub) c.number-value.result) c.number-value.ensures
-          (sym allowed ∙ c.if-forbidden-ne0.false)); }
+          (sym allowed ∙ c.if-forbidden-ne0.false));
+    }
 
 pub returns : goal.returns
 returns c =
@@ -77,7 +79,7 @@ returns c =
     let access = rw (c.find-entry.ensures, c.is_stopped.ensures, c.node_at-was.ensures) at
     c.access_refusal-refused.ensures in
     let allowed = asked_rows a.deltas.now a.bytes.now a.index a.sub _ _ _ c.find-entry.ensures c.number-value.ensures.is
-        c.written_refusal-forbidden.ensures in
+    c.written_refusal-forbidden.ensures in
     let s = rw (c.find-entry.ensures, c.number-value.ensures.is) at c.after_write.ensures in
     taken d e _ _ refl refl s.normal
     (write_outcome d a.index a.sub a.bytes.now (parts_of e) (sym access ∙ c.if-refused-ne0.false) (sym allowed ∙ c.if-forbidden-ne0.false) s.machines)

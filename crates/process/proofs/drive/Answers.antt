@@ -1,7 +1,6 @@
 -- drive: refused, or both buffers filled with what the outputs drive.
 -- Assumes nothing.
 use mathlib.Core.Path.{sym, ◌∙◌}
-use borrow.Author.Rules.{rules}
 use Rattle.profile.specs.Refusals.{refusal}
 use Rattle.profile.specs.Replies.{refuse}
 use Rattle.store.specs.View.{held, parts_of}

@@ -2,7 +2,6 @@
 -- Assumes nothing.
 use mathlib.Core.Path.{refl, sym, ◌∙◌}
 use native.Mathlib.Omega.{arith}
-use borrow.Author.Rules.{rules}
 use Rattle.profile.specs.Refusals.{refusal}
 use Rattle.profile.specs.Replies.{refuse}
 use Rattle.store.specs.View.{held, parts_of}
@@ -25,8 +24,11 @@ store-requires c = (sample_lengths _ _ _ (sym c.sample_refusal-refused.ensures �
 
 pub sample_all-met-requires : goal.sample_all-met-requires
 sample_all-met-requires c =
-    record { octets_len = (c.lend-arg-2-1.given, c.lend-arg-7-1.given); xs_len = (sample_lengths _ _ _
-          (sym c.sample_refusal-refused.ensures ∙ c.if-refused-ne0.false)).1; }
+    record {
+      octets_len = (c.lend-arg-2-1.given, c.lend-arg-7-1.given);
+      xs_len = (sample_lengths _ _ _
+          (sym c.sample_refusal-refused.ensures ∙ c.if-refused-ne0.false)).1;
+    }
 
 pub returns : goal.returns
 unfolding refusal

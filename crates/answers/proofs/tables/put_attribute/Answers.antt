@@ -1,7 +1,6 @@
 -- `tables::put_attribute` meets its contract: the entries are the table's words.
 -- Assumes nothing.
 use mathlib.Core.Path.{refl}
-use borrow.Author.Rules.{rules}
 use Rattle.words.specs.Ascii.{ascii}
 use Rattle.answers.specs.Answers.{attributes, attribute_text}
 use Rattle.texts.proofs.TableLaws.{table_put}

@@ -1,7 +1,6 @@
 -- `tables::put_expected` meets its contract: the entries are the texts in their order.
 -- Assumes nothing.
 use mathlib.Core.Path.{refl}
-use borrow.Author.Rules.{rules}
 use Rattle.answers.proofs.ExpectedLaws.{expected_put}
 use Rattle.answers.proofs.tables.put_expected.Goals as goal
 

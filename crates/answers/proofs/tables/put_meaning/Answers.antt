@@ -4,7 +4,6 @@ use mathlib.Core.Path.{refl}
 use Rattle.words.specs.Ascii.{ascii}
 use Rattle.answers.specs.Answers.{refusals, refusal_text}
 use Rattle.texts.proofs.TableLaws.{table_put}
-use borrow.Author.Rules.{rules}
 use Rattle.answers.proofs.tables.put_meaning.Goals as goal
 
 pub returns : goal.returns

@@ -1,8 +1,6 @@
 -- `tables::entry` meets its contract: it ends since its number falls.
 -- Assumes nothing.
-use Prim.Native.Nat.{ℕ, ◌<◌}
 use native.Mathlib.Omega.{arith}
-use borrow.Author.Rules.{rules}
 use Rattle.texts.proofs.TableLaws.{entry_first, entry_later}
 use Rattle.texts.proofs.tables.+entry.Goals as goal
 

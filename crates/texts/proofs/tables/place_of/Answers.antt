@@ -1,13 +1,8 @@
 -- `tables::place_of` meets its contract: the numbers passed and those in front of what is left are the numbers in front.
 -- Assumes nothing.
-use mathlib.Core.Path.{◌≡◌}
 use mathlib.Core.Bool.{false}
-use Prim.Native.Nat.{◌+◌, ◌-◌, ◌≤◌}
 use native.Mathlib.Omega.{arith}
-use lib.ListN.{length, drop}
-use borrow.Author.Rules.{rules}
 use borrow.Author.Tests.{eqb-false, ne_eqb}
-use Rattle.words.specs.Words.{run}
 use Rattle.words.proofs.RunLaws.{run_more, run_stops, run_ends}
 use Rattle.texts.proofs.tables.place_of.Goals as goal
 
@@ -29,12 +24,11 @@ pub loop-i-smaller : goal.loop-i-smaller
 loop-i-smaller c = omega arith
 
 pub loop-i-preserved : goal.loop-i-preserved
-loop-i-preserved c =
-    (
-      omega arith,
-      run_more false _ c.args.numbers.now _ c.loop-i-test.true
-          (ne_eqb _ _ c.if-numbers-i.false) c.loop-i.invariant.1,
-    )
+loop-i-preserved c = (
+  omega arith,
+  run_more false _ c.args.numbers.now _ c.loop-i-test.true
+      (ne_eqb _ _ c.if-numbers-i.false) c.loop-i.invariant.1,
+)
 
 pub returns : goal.returns
 returns c =

@@ -3,12 +3,8 @@
 use mathlib.Core.Path.{◌≡◌}
 use mathlib.Core.Bool.{false}
 use Prim.Native.Nat.{◌+◌, ◌-◌, ◌≤◌}
-use native.Mathlib.Omega.{arith}
 use lib.ListN.{length, drop}
-use borrow.Author.Rules.{rules}
-use borrow.Author.Tests.{eqb-false, ne_eqb}
 use Rattle.words.specs.Words.{run}
-use Rattle.words.proofs.RunLaws.{run_more, run_stops, run_ends}
 use Rattle.texts.proofs.tables.place_of.Given as goal
 
 abbrev pub invariant-loop-i : goal.invariant-loop-i

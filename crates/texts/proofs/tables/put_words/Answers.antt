@@ -1,6 +1,5 @@
 -- `tables::put_words` meets its contract.
 -- Assumes nothing.
-use borrow.Author.Rules.{rules}
 use Rattle.texts.proofs.TableLaws.{put_from}
 use Rattle.texts.proofs.tables.put_words.Goals as goal
 

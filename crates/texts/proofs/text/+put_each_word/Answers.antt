@@ -1,14 +1,12 @@
 -- `text::put_each_word` meets its contract: it ends since what is left of the text falls.
 -- Assumes nothing.
 use mathlib.Core.Path.{sym, ap, ◌∙◌}
-use Prim.Native.Nat.{ℕ, ◌<◌}
 use native.Mathlib.Omega.{arith}
 use lib.ListN.{length}
 use borrow.Author.Tests.{eqb-false}
 use Rattle.words.specs.Words.{first_word}
 use Rattle.words.proofs.SplitLaws.{after_shorter}
 use Rattle.texts.proofs.TextLaws.{words_put_none, words_put_more}
-use borrow.Author.Rules.{rules}
 use Rattle.texts.proofs.text.+put_each_word.Goals as goal
 
 pub returns-then-is_blank : goal.returns-then-is_blank

@@ -1,12 +1,10 @@
 -- `text::put_all` meets its contract, a byte after the other.
 -- Assumes nothing.
-use Rattle.texts.specs.Texts.{Put, each_text}
+use Rattle.texts.specs.Texts.{Put}
 use Rattle.texts.proofs.TextLaws.{each_more, each_all, each_byte}
 use Rattle.texts.proofs.PutLaws.{put_none}
-use borrow.Author.Rules.{rules}
 use native.Mathlib.Omega.{arith}
-use lib.ListN.{length, take}
-use Prim.Native.Nat.{ℕ, ◌-◌, ◌≤◌}
+use Prim.Native.Nat.{ℕ}
 use mathlib.Core.List.{List, [], ◌∷◌}
 use mathlib.Core.Path.{subst}
 use Rattle.texts.proofs.text.put_all.Goals as goal
@@ -24,12 +22,11 @@ pub loop-i-smaller : goal.loop-i-smaller
 loop-i-smaller c = omega arith
 
 pub loop-i-preserved : goal.loop-i-preserved
-loop-i-preserved c =
-    (
-      omega arith,
-      each_more (λ (b : ℕ). b ∷ []) c.args.text.now _ 0 c.loop-i-test.true
-          c.loop-i.invariant.1 c.put-next.ensures,
-    )
+loop-i-preserved c = (
+  omega arith,
+  each_more (λ (b : ℕ). b ∷ []) c.args.text.now _ 0 c.loop-i-test.true
+      c.loop-i.invariant.1 c.put-next.ensures,
+)
 
 pub returns : goal.returns
 returns c =

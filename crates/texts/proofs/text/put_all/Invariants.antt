@@ -1,14 +1,9 @@
 -- `text::put_all` meets its contract, a byte after the other.
 -- Assumes nothing.
 use Rattle.texts.specs.Texts.{Put, each_text}
-use Rattle.texts.proofs.TextLaws.{each_more, each_all, each_byte}
-use Rattle.texts.proofs.PutLaws.{put_none}
-use borrow.Author.Rules.{rules}
-use native.Mathlib.Omega.{arith}
 use lib.ListN.{length, take}
 use Prim.Native.Nat.{ℕ, ◌-◌, ◌≤◌}
-use mathlib.Core.List.{List, [], ◌∷◌}
-use mathlib.Core.Path.{subst}
+use mathlib.Core.List.{[], ◌∷◌}
 use Rattle.texts.proofs.text.put_all.Given as goal
 
 abbrev pub invariant-loop-i : goal.invariant-loop-i

@@ -1,13 +1,8 @@
 -- `text::put_bytes` meets its contract, one after the other.
 -- Assumes nothing.
-use Rattle.texts.specs.Texts.{Put, hex_text, bytes_text}
-use Rattle.texts.proofs.TextLaws.{each_more, each_all}
-use Rattle.texts.proofs.PutLaws.{put_none, put_then}
-use borrow.Author.Rules.{rules}
-use native.Mathlib.Omega.{arith}
+use Rattle.texts.specs.Texts.{Put, bytes_text}
 use lib.ListN.{length, take}
-use Prim.Native.Nat.{ℕ, ◌-◌, ◌≤◌}
-use mathlib.Core.List.{◌∷◌}
+use Prim.Native.Nat.{◌-◌, ◌≤◌}
 use Rattle.texts.proofs.text.put_bytes.Given as goal
 
 abbrev pub invariant-loop-i : goal.invariant-loop-i

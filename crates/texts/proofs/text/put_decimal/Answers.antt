@@ -2,10 +2,9 @@
 -- Assumes nothing.
 use Rattle.texts.specs.Texts.{Put}
 use Rattle.texts.proofs.TextLaws.{decimal_is}
-use Prim.Native.Nat.{ℕ, ◌-◌}
+use Prim.Native.Nat.{ℕ}
 use mathlib.Core.List.{List}
 use mathlib.Core.Path.{subst}
-use borrow.Author.Rules.{rules}
 use Rattle.texts.proofs.text.put_decimal.Goals as goal
 
 pub returns : goal.returns

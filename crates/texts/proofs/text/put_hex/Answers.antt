@@ -2,10 +2,9 @@
 -- Assumes nothing.
 use Rattle.texts.specs.Texts.{Put, glyph_of, hex_text}
 use Rattle.texts.proofs.PutLaws.{put_then}
-use Prim.Native.Nat.{ℕ, ◌-◌, ◌/◌, ◌%◌}
+use Prim.Native.Nat.{ℕ, ◌/◌, ◌%◌}
 use mathlib.Core.List.{List, [], ◌∷◌}
 use mathlib.Core.Path.{ap, subst, ◌∙◌}
-use borrow.Author.Rules.{rules}
 use Rattle.texts.proofs.text.put_hex.Goals as goal
 
 pub returns : goal.returns

@@ -2,8 +2,6 @@
 -- Assumes nothing.
 use Rattle.texts.specs.Texts.{long_hex_text, hex_text}
 use Rattle.texts.proofs.PutLaws.{put_then}
-use Prim.Native.Nat.{◌-◌}
-use borrow.Author.Rules.{rules}
 use Rattle.texts.proofs.text.put_long_hex.Goals as goal
 
 pub returns : goal.returns

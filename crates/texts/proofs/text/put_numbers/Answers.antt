@@ -2,16 +2,14 @@
 -- Assumes nothing.
 use mir.Facts.{to_z-of_z}
 use mathlib.Core.Path.{subst}
-use Rattle.texts.specs.Texts.{Put, bits_text, numbers_text}
+use Rattle.texts.specs.Texts.{Put, bits_text}
 use Rattle.texts.proofs.TextLaws.{each_more, each_all}
 use Rattle.texts.proofs.PutLaws.{put_none, put_then}
-use borrow.Author.Rules.{rules}
 use native.Mathlib.Omega.{arith}
 use mir.Val.{of_z}
 use mir.Syntax.{w16}
 use lib.IntN.{ℤ, pos}
-use lib.ListN.{length, take, get_or}
-use Prim.Native.Nat.{◌-◌, ◌≤◌}
+use lib.ListN.{get_or}
 use mathlib.Core.List.{◌∷◌}
 use Rattle.texts.proofs.text.put_numbers.Goals as goal
 

@@ -1,18 +1,8 @@
 -- `text::put_numbers` meets its contract, one after the other.
 -- Assumes nothing.
-use mir.Facts.{to_z-of_z}
-use mathlib.Core.Path.{subst}
-use Rattle.texts.specs.Texts.{Put, bits_text, numbers_text}
-use Rattle.texts.proofs.TextLaws.{each_more, each_all}
-use Rattle.texts.proofs.PutLaws.{put_none, put_then}
-use borrow.Author.Rules.{rules}
-use native.Mathlib.Omega.{arith}
-use mir.Val.{of_z}
-use mir.Syntax.{w16}
-use lib.IntN.{ℤ, pos}
-use lib.ListN.{length, take, get_or}
+use Rattle.texts.specs.Texts.{Put, numbers_text}
+use lib.ListN.{length, take}
 use Prim.Native.Nat.{◌-◌, ◌≤◌}
-use mathlib.Core.List.{◌∷◌}
 use Rattle.texts.proofs.text.put_numbers.Given as goal
 
 abbrev pub invariant-loop-i : goal.invariant-loop-i

@@ -3,8 +3,7 @@
 use Rattle.texts.specs.Texts.{place_text}
 use Rattle.texts.proofs.PutLaws.{put_none, put_then}
 use borrow.Author.Tests.{eq-eqb, ne_eqb}
-use Prim.Native.Nat.{◌-◌, ◌%◌}
-use borrow.Author.Rules.{rules}
+use Prim.Native.Nat.{◌%◌}
 use Rattle.texts.proofs.text.put_place.Goals as goal
 
 pub returns-then-bits-eq1 : goal.returns-then-bits-eq1

@@ -1,9 +1,7 @@
 -- `text::put_places` meets its contract, a bit after the other.
 -- Assumes nothing.
-use Rattle.texts.proofs.TextLaws.{Placing, placing_none, placing_more, placing_all}
-use borrow.Author.Rules.{rules}
+use Rattle.texts.proofs.TextLaws.{placing_none, placing_more, placing_all}
 use native.Mathlib.Omega.{arith}
-use Prim.Native.Nat.{◌-◌}
 use Rattle.texts.proofs.text.put_places.Goals as goal
 
 pub loop-n-init : goal.loop-n-init

@@ -1,8 +1,6 @@
 -- `text::put_places` meets its contract, a bit after the other.
 -- Assumes nothing.
-use Rattle.texts.proofs.TextLaws.{Placing, placing_none, placing_more, placing_all}
-use borrow.Author.Rules.{rules}
-use native.Mathlib.Omega.{arith}
+use Rattle.texts.proofs.TextLaws.{Placing}
 use Prim.Native.Nat.{◌-◌}
 use Rattle.texts.proofs.text.put_places.Given as goal
 

@@ -9,7 +9,6 @@ use mir.Syntax.{w16}
 use mathlib.Core.List.{◌∷◌}
 use mathlib.Core.Path.{subst, ◌≡◌, ap, ◌∙◌}
 use Prim.Native.Nat.{◌-◌, ◌≤◌, ◌<◌}
-use borrow.Author.Rules.{rules}
 use Rattle.texts.proofs.text.put_signed.Goals as goal
 
 pub returns-then-bits-lt32768 : goal.returns-then-bits-lt32768
