@@ -1,6 +1,5 @@
 -- `frame_answers::end_abort` meets its contract.
 -- Assumes nothing.
-use borrow.Author.Rules.{rules}
 use Rattle.words.specs.Ascii.{ascii}
 use Rattle.texts.proofs.PutLaws.{put_then, put_two}
 use Rattle.answers.specs.Answers.{newline}

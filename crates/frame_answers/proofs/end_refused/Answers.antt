@@ -1,6 +1,5 @@
 -- `frame_answers::end_refused` meets its contract.
 -- Assumes nothing.
-use borrow.Author.Rules.{rules}
 use Rattle.frame_answers.specs.FrameAnswers.{refused_end}
 use Rattle.frame_answers.proofs.end_refused.Goals as goal
 

@@ -4,7 +4,6 @@ use mathlib.Core.Path.{sym, ap, ◌∙◌}
 use lib.Dec.{eqb}
 use lib.ListN.{length}
 use borrow.Author.Tests.{eq-eqb, ne_eqb}
-use borrow.Author.Rules.{rules}
 use Rattle.profile.specs.Entries.{home_of}
 use Rattle.profile.specs.Server.{sub_in, aborts}
 use Rattle.texts.proofs.PutLaws.{put_as, put_yes, put_no}

@@ -2,7 +2,6 @@
 -- Assumes nothing.
 use lib.Dec.{eqb}
 use borrow.Author.Tests.{eq-eqb, ne_eqb}
-use borrow.Author.Rules.{rules}
 use Rattle.texts.proofs.PutLaws.{put_yes, put_no}
 use Rattle.frame_answers.specs.FrameAnswers.{reply_end}
 use Rattle.frame_answers.proofs.end_reply.Goals as goal

@@ -1,6 +1,5 @@
 -- `frame_answers::end_silent` meets its contract.
 -- Assumes nothing.
-use borrow.Author.Rules.{rules}
 use Rattle.frame_answers.specs.FrameAnswers.{silent_end}
 use Rattle.frame_answers.proofs.end_silent.Goals as goal
 

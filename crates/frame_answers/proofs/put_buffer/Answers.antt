@@ -1,6 +1,5 @@
 -- `frame_answers::put_buffer` meets its contract.
 -- Assumes nothing.
-use borrow.Author.Rules.{rules}
 use Rattle.texts.proofs.PutLaws.{put_then}
 use Rattle.frame_answers.specs.FrameAnswers.{buffer_text}
 use Rattle.frame_answers.proofs.put_buffer.Goals as goal

@@ -1,6 +1,5 @@
 -- `frame_answers::put_reply` meets its contract.
 -- Assumes nothing.
-use borrow.Author.Rules.{rules}
 use Rattle.texts.proofs.PutLaws.{put_then}
 use Rattle.frame_answers.specs.FrameAnswers.{reply_line}
 use Rattle.frame_answers.proofs.put_reply.Goals as goal

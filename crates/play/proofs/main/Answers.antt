@@ -1,7 +1,7 @@
 -- `main` ends, and the totals have room.
 -- Assumes nothing.
 use Rattle.play.proofs.ByteLaws.{last_room}
-use Rattle.std.proofs.Common.{◌-◌, eqb, rules}
+use Rattle.std.proofs.Common.{eqb}
 use Rattle.play.proofs.main.Goals as goal
 
 pub finish-requires : goal.finish-requires

@@ -1,7 +1,6 @@
 -- `play_all` is safe and ends: the turns are counted down.
 -- Assumes nothing.
-use Rattle.std.proofs.Common.{◌≤◌, arith}
-use Rattle.play.specs.Sessions.{full}
+use Rattle.std.proofs.Common.{arith}
 use Rattle.play.proofs.play_all.Goals as goal
 
 pub fresh-session-requires : goal.fresh-session-requires

@@ -1,6 +1,6 @@
 -- `play_all` is safe and ends: the turns are counted down.
 -- Assumes nothing.
-use Rattle.std.proofs.Common.{◌≤◌, arith}
+use Rattle.std.proofs.Common.{◌≤◌}
 use Rattle.play.specs.Sessions.{full}
 use Rattle.play.proofs.play_all.Given as goal
 

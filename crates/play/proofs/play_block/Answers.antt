@@ -1,6 +1,6 @@
 -- `play_block` keeps the room for an answer.
 -- Assumes nothing.
-use Rattle.std.proofs.Common.{◌≤◌, sym, subst, rules}
+use Rattle.std.proofs.Common.{◌≤◌, sym, subst}
 use Rattle.play.specs.declared.session.Session.{Session}
 use Rattle.play.specs.Sessions.{full}
 use Rattle.play.proofs.play_block.Goals as goal

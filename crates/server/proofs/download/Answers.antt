@@ -1,6 +1,5 @@
 -- `download` meets its contract: the plain write's reply, refused or accepted.
 -- Assumes nothing.
-use borrow.Author.Rules.{rules}
 use Rattle.store.specs.View.{held}
 use Rattle.server.proofs.RequestLaws.{download_aborted, downloaded}
 use Rattle.server.proofs.download.Goals as goal

@@ -1,7 +1,6 @@
 -- `request` meets its contract: refused by a length, while stopped, or served.
 -- Assumes nothing.
 use mathlib.Core.Path.{sym, ◌∙◌}
-use borrow.Author.Rules.{rules}
 use Rattle.store.specs.View.{held}
 use Rattle.server.proofs.RequestLaws.{both_eight, request_refused, while_stopped}
 use Rattle.server.proofs.request.Goals as goal

@@ -1,7 +1,6 @@
 -- `serve` meets its contract: a client's abort, an upload, a download, or no request of the server.
 -- Assumes nothing.
 use mathlib.Core.Path.{sym, ◌∙◌}
-use borrow.Author.Rules.{rules}
 use Rattle.store.specs.View.{held}
 use Rattle.profile.proofs.ServerLaws.{upload_asks, download_asks}
 use Rattle.server.proofs.RequestLaws.{aborted, unknown, done}

@@ -1,6 +1,5 @@
 -- `upload` meets its contract: the plain read's reply, refused or accepted.
 -- Assumes nothing.
-use borrow.Author.Rules.{rules}
 use Rattle.store.specs.View.{held}
 use Rattle.objects.specs.View.{read_number}
 use Rattle.server.proofs.RequestLaws.{read_bytes, upload_aborted, uploaded}

@@ -1,6 +1,5 @@
 -- The method's promise is that of the call in place, at the device's own limits and deltas.
 -- Assumes nothing.
-use borrow.Author.Rules.{rules}
 use Rattle.device.proofs.Device.clear.Goals as goal
 
 pub returns : goal.returns

@@ -1,11 +1,10 @@
 -- `received::write_each` meets its contract: it ends since the entries become fewer.
 -- Assumes nothing.
 use mathlib.Core.Path.{refl, sym, ◌∙◌}
-use Prim.Native.Nat.{ℕ, ◌<◌}
+use Prim.Native.Nat.{◌<◌}
 use native.Mathlib.Omega.{arith}
 use lib.ListN.{length}
 use lib.Seq.{length-take-le}
-use borrow.Author.Rules.{rules}
 use Rattle.store.specs.View.{held}
 use Rattle.messages.proofs.FrameLaws.{first_fits, rest_room, fewer, frame_none, frame_first}
 use Rattle.messages.proofs.received.+write_each.Goals as goal

@@ -1,6 +1,5 @@
 -- `received::obey` meets its contract.
 -- Assumes nothing.
-use borrow.Author.Rules.{rules}
 use Rattle.store.specs.View.{held}
 use Rattle.messages.proofs.FrameLaws.{frame_short, frame_long}
 use Rattle.messages.proofs.received.obey.Goals as goal

@@ -1,8 +1,6 @@
 -- `received::receive` meets its contract: not operational, or obeyed by the entries in force.
 -- Assumes nothing.
 use mathlib.Core.Path.{sym, ◌∙◌}
-use borrow.Author.Rules.{rules}
-use borrow.Author.Tests.{not-true, not-false}
 use Rattle.store.specs.View.{held}
 use Rattle.messages.proofs.OutcomeLaws.{receives_below, in_force_length, few, idle, obeyed}
 use Rattle.messages.proofs.received.receive.Goals as goal

@@ -1,6 +1,5 @@
 -- `received::write_entry` meets its contract: no data, or a plain write.
 -- Assumes nothing.
-use borrow.Author.Rules.{rules}
 use Rattle.store.specs.View.{held}
 use Rattle.messages.proofs.FrameLaws.{entry_passed, entry_written}
 use Rattle.messages.proofs.received.write_entry.Goals as goal

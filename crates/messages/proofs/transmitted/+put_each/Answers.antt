@@ -1,11 +1,8 @@
 -- `transmitted::put_each` meets its contract: it ends since the entries become fewer.
 -- Assumes nothing.
-use mathlib.Core.Path.{◌∙◌}
-use Prim.Native.Nat.{ℕ, ◌<◌}
+use Prim.Native.Nat.{◌<◌}
 use native.Mathlib.Omega.{arith}
 use lib.ListN.{length}
-use borrow.Author.Rules.{rules}
-use Rattle.messages.proofs.PartLaws.{back_length}
 use Rattle.messages.proofs.FrameLaws.{first_fits, rest_room, fewer, filled_none, filled_first}
 use Rattle.messages.proofs.transmitted.+put_each.Goals as goal
 

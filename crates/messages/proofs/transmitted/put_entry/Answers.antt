@@ -1,6 +1,5 @@
 -- `transmitted::put_entry` meets its contract: the bytes of the value that a read answers.
 -- Assumes nothing.
-use borrow.Author.Rules.{rules}
 use Rattle.store.proofs.EntryLaws.{entry_readable}
 use Rattle.messages.proofs.FrameLaws.{entry_put}
 use Rattle.messages.proofs.transmitted.put_entry.Goals as goal

@@ -1,6 +1,5 @@
 -- `transmitted::send` meets its contract.
 -- Assumes nothing.
-use borrow.Author.Rules.{rules}
 use Rattle.messages.proofs.FrameLaws.{sent_none, sent_all}
 use Rattle.messages.proofs.transmitted.send.Goals as goal
 

@@ -12,7 +12,7 @@ use Rattle.messages.proofs.transmitted.shown.Goals as goal
 pub read-requires : goal.read-requires
 read-requires c =
     let p : Readable (Window c.in-Window.row c.in-Window.width c.in-Window.sub) = subst Readable c.in-Window.is c.requires in
-    record { covers = p.0; row_bound = p.1; }
+    record { covers = p.0; row_bound = p.1 }
 
 pub last_at-requires : goal.last_at-requires
 last_at-requires c = subst Readable c.in-InputChannel.is c.requires

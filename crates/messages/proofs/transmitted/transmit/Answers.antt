@@ -1,8 +1,6 @@
 -- `transmitted::transmit` meets its contract: refused, not operational, or the entries in force sent.
 -- Assumes nothing.
 use mathlib.Core.Path.{sym, ◌∙◌}
-use borrow.Author.Rules.{rules}
-use borrow.Author.Tests.{not-true, not-false}
 use Rattle.store.specs.View.{held}
 use Rattle.messages.proofs.OutcomeLaws.{transmits_below, sends_only, in_force_length, few, eight, transmit_refused, silent, sent}
 use Rattle.messages.proofs.transmitted.transmit.Goals as goal

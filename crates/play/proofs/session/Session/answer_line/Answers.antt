@@ -1,21 +1,20 @@
 -- `session::Session::answer_line` meets its contract.
 -- Assumes nothing.
-use Rattle.std.proofs.Common.{length, ap, arith, rules}
+use Rattle.std.proofs.Common.{length, ap, arith}
 use Rattle.words.proofs.ExpectationLaws.{expected_short}
 use Rattle.play.proofs.LineLaws.{answered_call, short_enough, line_expects, line_says}
 use Rattle.play.proofs.session.Session.answer_line.Goals as goal
 
 pub compare-requires : goal.compare-requires
-compare-requires c =
-    (
-      c.requires,
-      omega (
-        arith,
-        ap length c.expected.ensures,
-        expected_short c.args.text.now,
-        short_enough c.args.text.now _ c.if-text-is_expectation.true,
-      ),
-    )
+compare-requires c = (
+  c.requires,
+  omega (
+    arith,
+    ap length c.expected.ensures,
+    expected_short c.args.text.now,
+    short_enough c.args.text.now _ c.if-text-is_expectation.true,
+  ),
+)
 
 pub returns-then-text-is_expectation : goal.returns-then-text-is_expectation
 returns-then-text-is_expectation c =

@@ -1,7 +1,7 @@
 -- `Session::create` meets its contract.
 -- Assumes nothing.
 use Rattle.play.proofs.PlayLaws.{created}
-use Rattle.std.proofs.Common.{◌≡◌, length, ◌-◌, rules}
+use Rattle.std.proofs.Common.{◌≡◌, length, rules}
 use Rattle.play.proofs.session.Session.create.Goals as goal
 
 pub returns : goal.returns

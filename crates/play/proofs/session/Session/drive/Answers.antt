@@ -6,7 +6,7 @@ use Rattle.answers.proofs.LengthLaws.{drive_short}
 use Rattle.device.specs.View.{drive_answer}
 use Rattle.texts.specs.Texts.{Put}
 use Rattle.answers.specs.Answers.{drive_line}
-use Rattle.std.proofs.Common.{◌≡◌, ℕ, ◌-◌, List, length, take, drop, ℤ, sym, ◌∙◌, subst, arith, length-take-le, rules}
+use Rattle.std.proofs.Common.{◌≡◌, ℕ, List, length, take, drop, ℤ, sym, ◌∙◌, subst, arith, length-take-le, rules}
 use Rattle.play.proofs.session.Session.drive.Goals as goal
 
 pub slice_bounds-drive-end-2 : goal.slice_bounds-drive-end-2

@@ -1,6 +1,6 @@
 -- `session::Session::fresh` meets its contract.
 -- Assumes nothing.
-use Rattle.std.proofs.Common.{refl, rules}
+use Rattle.std.proofs.Common.{refl}
 use Rattle.profile.specs.Refusals.{create_refusal}
 use Rattle.play.proofs.session.Session.fresh.Goals as goal
 

@@ -1,7 +1,6 @@
 -- `Session::play_bytes` keeps the room, a byte after the other.
 -- Assumes nothing.
-use Rattle.std.proofs.Common.{◌-◌, ◌≤◌, eqb, length, get_or, arith}
-use Rattle.play.specs.Sessions.{full}
+use Rattle.std.proofs.Common.{eqb, get_or, arith}
 use Rattle.play.proofs.ByteLaws.{took_room}
 use Rattle.play.proofs.session.Session.play_bytes.Goals as goal
 

@@ -1,8 +1,7 @@
 -- `Session::play_bytes` keeps the room, a byte after the other.
 -- Assumes nothing.
-use Rattle.std.proofs.Common.{◌-◌, ◌≤◌, eqb, length, get_or, arith}
+use Rattle.std.proofs.Common.{◌-◌, ◌≤◌, length}
 use Rattle.play.specs.Sessions.{full}
-use Rattle.play.proofs.ByteLaws.{took_room}
 use Rattle.play.proofs.session.Session.play_bytes.Given as goal
 
 abbrev pub invariant-loop-i : goal.invariant-loop-i

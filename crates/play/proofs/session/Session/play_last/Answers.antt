@@ -1,6 +1,6 @@
 -- `session::Session::play_last` meets its contract.
 -- Assumes nothing.
-use Rattle.std.proofs.Common.{Bool, sym, refl, subst, rules, eq-eqb, ne_eqb}
+use Rattle.std.proofs.Common.{Bool, sym, refl, subst, eq-eqb, ne_eqb}
 use Rattle.play.specs.Sessions.{PlayedLast}
 use Rattle.play.proofs.session.Session.play_last.Goals as goal
 

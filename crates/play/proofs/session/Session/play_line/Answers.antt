@@ -1,7 +1,6 @@
 -- `session::Session::play_line` meets its contract.
 -- Assumes nothing.
 use Rattle.play.proofs.ByteLaws.{line_played}
-use Rattle.std.proofs.Common.{◌≡◌, length, rules}
 use Rattle.play.proofs.session.Session.play_line.Goals as goal
 
 pub returns : goal.returns

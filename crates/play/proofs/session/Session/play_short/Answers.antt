@@ -1,7 +1,6 @@
 -- `session::Session::play_short` meets its contract.
 -- Assumes nothing.
 use Rattle.play.proofs.LineLaws.{long_line, short_line}
-use Rattle.std.proofs.Common.{rules}
 use Rattle.play.proofs.session.Session.play_short.Goals as goal
 
 pub returns-then-text-gt1024 : goal.returns-then-text-gt1024

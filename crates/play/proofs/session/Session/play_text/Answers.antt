@@ -2,7 +2,6 @@
 -- Assumes nothing.
 use Rattle.notation.specs.Meanings.{meaning_of}
 use Rattle.play.proofs.PlayLaws.{as_meant, fits_as, not_played, whole}
-use Rattle.std.proofs.Common.{◌-◌, rules}
 use Rattle.play.proofs.session.Session.play_text.Goals as goal
 
 pub sample_from-requires : goal.sample_from-requires

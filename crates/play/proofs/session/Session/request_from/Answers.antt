@@ -1,6 +1,6 @@
 -- `Session::request_from` meets its contract.
 -- Assumes nothing.
-use Rattle.std.proofs.Common.{ℕ, List, take, subst, rules}
+use Rattle.std.proofs.Common.{ℕ, List, take, subst}
 use Rattle.profile.specs.Calls as Doc
 use Rattle.notation.specs.Meanings.Meaning.{call}
 use Rattle.play.specs.Sessions.{Played}

@@ -6,7 +6,7 @@ use Rattle.answers.proofs.LengthLaws.{sample_short}
 use Rattle.device.specs.View.{sample_answer}
 use Rattle.texts.specs.Texts.{Put}
 use Rattle.answers.specs.Answers.{sample_line}
-use Rattle.std.proofs.Common.{◌≡◌, ℕ, ◌-◌, List, length, take, drop, sym, ◌∙◌, subst, arith, length-take-le, rules}
+use Rattle.std.proofs.Common.{◌≡◌, ℕ, List, length, take, drop, sym, ◌∙◌, subst, arith, length-take-le, rules}
 use Rattle.play.proofs.session.Session.sample.Goals as goal
 
 pub slice_bounds-sample-end-2 : goal.slice_bounds-sample-end-2

@@ -1,6 +1,6 @@
 -- `session::Session::take` meets its contract.
 -- Assumes nothing.
-use Rattle.std.proofs.Common.{refl, rules}
+use Rattle.std.proofs.Common.{refl}
 use Rattle.play.proofs.ByteLaws.{took_line, took_byte}
 use Rattle.play.proofs.session.Session.take.Goals as goal
 

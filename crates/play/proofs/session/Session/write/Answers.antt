@@ -4,7 +4,7 @@ use Rattle.play.proofs.PlayLaws.{called}
 use Rattle.profile.specs.Calls as Doc
 use Rattle.answers.proofs.LengthLaws.{write_short}
 use Rattle.device.specs.View.{plain_answer}
-use Rattle.std.proofs.Common.{◌≡◌, length, ◌-◌, rules}
+use Rattle.std.proofs.Common.{◌≡◌, length, rules}
 use Rattle.play.proofs.session.Session.write.Goals as goal
 
 pub returns : goal.returns

@@ -3,7 +3,7 @@
 use Rattle.play.specs.Sessions.{Played}
 use Rattle.profile.specs.Calls as Doc
 use Rattle.notation.specs.Meanings.Meaning.{call}
-use Rattle.std.proofs.Common.{ℕ, ◌-◌, List, subst, rules}
+use Rattle.std.proofs.Common.{ℕ, List, subst}
 use Rattle.play.proofs.session.Session.write_from.Goals as goal
 
 pub returns : goal.returns
