@@ -7,7 +7,7 @@ ghost use Rattle.frame_answers.specs.FrameAnswers.{buffer_text, refused_end, sil
 
 use answers::tables::put_meaning;
 use answers::{end_access, put_number};
-use frames::requests::{aborts, code_in, index_in, sub_in};
+use server_frames::requests::{aborts, code_in, index_in, sub_in};
 use texts::text::{put, put_all, put_bytes, put_decimal};
 
 // A request, in a node that was stopped before it or not.

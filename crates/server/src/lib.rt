@@ -12,10 +12,10 @@ ghost use Rattle.server.specs.View.{request_number, Done};
 
 use channels::fields::{Deltas, Flags, Limits, Octets, Values};
 use dictionary::refusals::{NO_REQUEST, request_refusal};
-use frames::replies::{put_abort, put_download, put_upload};
-use frames::requests::{aborts, asks_download, asks_upload, index_in, size_in, sub_in};
 use nodes::is_stopped;
 use objects::{read, write};
+use server_frames::replies::{put_abort, put_download, put_upload};
+use server_frames::requests::{aborts, asks_download, asks_upload, index_in, size_in, sub_in};
 use store::node_at;
 use windows::Words;
 

@@ -1,0 +1,81 @@
+// The eight bytes of a reply: its first byte, the request's second to fourth bytes, and data.
+ghost use Rattle.std.specs.Prelude.{◌≡◌, ◌%◌, ◌^◌, ◌≤◌, length};
+ghost use Rattle.profile.specs.Server.{reply_frame, download_reply, upload_reply, abort_reply};
+ghost use Rattle.server_frames.specs.Layout.{headed, filled};
+
+use crate::first::first_byte;
+
+// A server's command specifiers.
+const UPLOADED: u8 = 2;
+
+const DOWNLOADED: u8 = 3;
+
+const ABORTED: u8 = 4;
+
+pub fn put_download(frame: &[u8], reply: &mut [u8])
+    requires { (length frame.now ≡ 8) × (length reply.old ≡ 8) }
+    ensures { reply.new ≡ download_reply frame.now }
+{
+    let first = first_byte(DOWNLOADED, 0, false, false);
+    put_reply(frame, reply, first, 0, 0);
+}
+
+// Expedited, and tells its size.
+pub fn put_upload(frame: &[u8], reply: &mut [u8], size: usize, value: u32)
+    requires { (length frame.now ≡ 8) × (length reply.old ≡ 8) × (1 ≤ size) × (size ≤ 4) }
+    ensures { reply.new ≡ upload_reply frame.now size value }
+{
+    let first = first_byte(UPLOADED, (4 - size) as u8, true, true);
+    put_reply(frame, reply, first, size, value);
+}
+
+pub fn put_abort(frame: &[u8], reply: &mut [u8], code: u32)
+    requires { (length frame.now ≡ 8) × (length reply.old ≡ 8) }
+    ensures { reply.new ≡ abort_reply frame.now code }
+{
+    let first = first_byte(ABORTED, 0, false, false);
+    put_reply(frame, reply, first, 4, code);
+}
+
+// So many data bytes hold the value, the spare ones are 0.
+fn put_reply(frame: &[u8], reply: &mut [u8], first: u8, size: usize, value: u32)
+    requires { (length frame.now ≡ 8) × (length reply.old ≡ 8) × (size ≤ 4) }
+    ensures { reply.new ≡ reply_frame first frame.now size value }
+{
+    put_head(frame, reply, first);
+    put_data(reply, low_bytes(value, size));
+}
+
+fn put_head(frame: &[u8], reply: &mut [u8], first: u8)
+    requires { (length frame.now ≡ 8) × (length reply.old ≡ 8) }
+    ensures { reply.new ≡ headed first frame.now reply.old }
+{
+    reply[0] = first;
+    reply[1] = frame[1];
+    reply[2] = frame[2];
+    reply[3] = frame[3];
+}
+
+fn put_data(reply: &mut [u8], held: u32)
+    requires { length reply.old ≡ 8 }
+    ensures { reply.new ≡ filled held reply.old }
+{
+    reply[4] = (held % 256) as u8;
+    reply[5] = (held / 256 % 256) as u8;
+    reply[6] = (held / 65_536 % 256) as u8;
+    reply[7] = (held / 16_777_216) as u8;
+}
+
+// What so many bytes hold of a value, the least significant first.
+fn low_bytes(value: u32, size: usize) -> u32
+    requires { size ≤ 4 }
+    ensures { result ≡ value % 256 ^ size }
+{
+    match size {
+        0 => 0,
+        1 => value % 256,
+        2 => value % 65_536,
+        3 => value % 16_777_216,
+        _ => value,
+    }
+}
