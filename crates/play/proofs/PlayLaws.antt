@@ -96,39 +96,35 @@ module _ (before : Session) (out left : List ℕ) (after : Session) where
         aside = k.aside;
       }
 
-  -- a call of a frame, with what the code has found: its line is a text whose parts are equal
-  module _ (r : Reply) (d : Device) (place : ℕ) (k : Counted before d r.number place after) (l : length out ≡ 8192) where
-    pub received : (message : Message) (frame : List ℕ) (active long : Bool) → Ensured before.device (receive message frame) r d
-        → active ≡ is_active was → long ≡ is_long was message frame → Put (receive_line r.number active long) out before.at left place
+  -- a receive and a transmit, with what the code has found of the node and of the frame
+  module _ (message : Message) (frame : List ℕ) (r : Reply) (d : Device) (place : ℕ) (k : Counted before d r.number place after)
+      (l : length out ≡ 8192) (active : Bool) (a : active ≡ is_active was) where
+    pub received : (long : Bool) → Ensured before.device (receive message frame) r d → long ≡ is_long was message frame
+        → Put (receive_line r.number active long) out before.at left place
         → Played before (call (receive message frame)) out after left
-    received message frame active long kept a e p = called (receive message frame) r d place kept k
-        (subst (λ (t : List ℕ). Put t out before.at left place) (ap (λ (b : Bool). receive_line r.number b long) a ∙ ap
-        (receive_line r.number (is_active was)) e) p)
+    received long kept e p = called (receive message frame) r d place kept k
+        (subst (λ (b : Bool). Put (receive_line r.number b (is_long was message frame)) out before.at left place) a
+        (subst (λ (b : Bool). Put (receive_line r.number active b) out before.at left place) e p))
         (receive_short r.number (is_active was) (is_long was message frame)) l
 
-    -- a line f that shows a buffer and tells what a test has found
-    module _ (c : Call) (f : List ℕ → Bool → List ℕ) (test : Bool) (is : f r.bytes test ≡ answer_line was c r)
-        (short : length (answer_line was c r) ≤ 1024) where
-      shown : Ensured before.device c r d → (bytes : List ℕ) (found : Bool) → bytes ≡ r.bytes → found ≡ test
-          → Put (f bytes found) out before.at left place → Played before (call c) out after left
-      shown kept bytes found e a p = called c r d place kept k
-          (subst (λ (t : List ℕ). Put t out before.at left place)
-          (ap (λ (m : List ℕ). f m found) e ∙ ap (f r.bytes) a ∙ is) p) short l
+    pub transmitted : (bytes : List ℕ) → Ensured before.device (transmit message frame) r d → bytes ≡ r.bytes → length r.bytes ≤ 64
+        → Put (frame_line r.number bytes r.count active) out before.at left place
+        → Played before (call (transmit message frame)) out after left
+    transmitted bytes kept e h p = called (transmit message frame) r d place kept k
+        (subst (λ (b : Bool). Put (frame_line r.number r.bytes r.count b) out before.at left place) a
+        (subst (λ (m : List ℕ). Put (frame_line r.number m r.count active) out before.at left place) e p))
+        (frame_short r.number r.bytes r.count (is_active was) h) l
 
-    module _ (bytes : List ℕ) (seen : bytes ≡ r.bytes) (h : length r.bytes ≤ 64) (found : Bool) where
-      pub transmitted : (message : Message) (frame : List ℕ) → found ≡ is_active was → Ensured before.device (transmit message frame) r d
-          → Put (frame_line r.number bytes r.count found) out before.at left place
-          → Played before (call (transmit message frame)) out after left
-      transmitted message frame a kept p =
-          shown (transmit message frame) (λ (m : List ℕ). frame_line r.number m r.count) (is_active was) refl
-          (frame_short r.number r.bytes r.count (is_active was) h) kept bytes found seen a p
-
-      pub requested : (frame buffer : List ℕ) → found ≡ is_stopped was → Ensured before.device (request frame buffer) r d
-          → Put (reply_line r.number bytes r.count found) out before.at left place
-          → Played before (call (request frame buffer)) out after left
-      requested frame buffer a kept p =
-          shown (request frame buffer) (λ (m : List ℕ). reply_line r.number m r.count) (is_stopped was) refl
-          (reply_short r.number r.bytes r.count (is_stopped was) h) kept bytes found seen a p
+  -- a request, with what the code has found of the node
+  module _ (frame buffer : List ℕ) (r : Reply) (d : Device) (place : ℕ) (k : Counted before d r.number place after)
+      (l : length out ≡ 8192) (stopped : Bool) (a : stopped ≡ is_stopped was) where
+    pub requested : (bytes : List ℕ) → Ensured before.device (request frame buffer) r d → bytes ≡ r.bytes → length r.bytes ≤ 64
+        → Put (reply_line r.number bytes r.count stopped) out before.at left place
+        → Played before (call (request frame buffer)) out after left
+    requested bytes kept e h p = called (request frame buffer) r d place kept k
+        (subst (λ (b : Bool). Put (reply_line r.number r.bytes r.count b) out before.at left place) a
+        (subst (λ (m : List ℕ). Put (reply_line r.number m r.count stopped) out before.at left place) e p))
+        (reply_short r.number r.bytes r.count (is_stopped was) h) l
 
   pub created : (node : ℕ) (made : Created) (place : ℕ) → CreatedAs node made → Counted before made.device made.number place after →
       Put (plain_line made.number) out before.at left place → length out ≡ 8192 → Played before (create node) out after left

@@ -11,24 +11,24 @@ use lib.IntN.{ℤ}
 use lib.ListN.{length}
 use borrow.Author.Tests.{eqb-true, ltb-false, le-ltb, le-leb, lt-leb}
 use Rattle.profile.specs.declared.Node.{Node}
+use Rattle.profile.specs.declared.Cause.TheVariants.{Internal, Lost}
 use Rattle.profile.specs.declared.Entry.{Entry}
 use Rattle.profile.specs.declared.Home.{Home}
 use Rattle.profile.specs.declared.Home.TheVariants.{Constant, Window, InputChannel, OutputChannel, Sources, Device, MappingEntry}
 use Rattle.profile.specs.Bytes.{little_endian, line_bit}
-use Rattle.profile.specs.Nodes.{stopped, fresh_node, addressed, obey_node}
+use Rattle.profile.specs.Nodes.{stopped, fresh_node, raise_node, clear_node, addressed, obey_node}
 use Rattle.profile.specs.Entries.{table, width_of, place, absent_entry, Object, at, window, Row, objects, lookup}
 use Rattle.profile.specs.Entries.{object_of, entry_of, home_of, not_allowed, above_range, below_range, at_device}
-use Rattle.profile.specs.Calls.{Plain, write, sample, command, Call, direct}
+use Rattle.profile.specs.Calls.{Plain, read, write, sample, command, raise, clear, drive, Call, direct}
 use Rattle.profile.specs.Refusals.{Conditions, write_refusal, is_command, command_refusal, refusal, sample_refusal, accepted}
-use Rattle.profile.specs.NodeAlone.{write_node}
+use Rattle.profile.specs.NodeAlone.{device_wide, write_node, next_node}
 use Rattle.profile.specs.InputLine.{InputLine, settle, sample_line, edge, line_event}
 use Rattle.profile.specs.Machines.{Kind, node_alone, input_line, Machine, known, step}
 use Rattle.profile.specs.Heard.{fresh_machines, fold, conditions, number_of, spoken}
 use Rattle.profile.specs.Lists.{after}
 use Rattle.profile.specs.FilterLength.{with_length, LengthObeyed, LengthReset}
 use Rattle.profile.proofs.BoolLaws.{both, neither, picked}
-use Rattle.profile.proofs.NodesAgree.{bare, node_step, step_node, after_node}
-use Rattle.profile.proofs.NodeLaws.{node_holds}
+use Rattle.profile.proofs.NodesAgree.{bare, node_by, node_step, step_node, after_node}
 use Rattle.profile.proofs.RefusalLaws.{write_passed}
 use Rattle.profile.proofs.StepLaws.{cond_same, setting_owns, write_step, sample_step, command_step}
 
@@ -204,14 +204,37 @@ Gives P c =
     (index sub : ℕ) (payload : List ℕ) → c ≡ write index sub payload → LengthEntry index (entry_of index sub) → P (little_endian payload)
 
 -- a property of the default length, and of each that an accepted write gives, stays at every plain call
-pub step_length : (P : ℕ → Type 0) → P 3 → (c : Plain) (n : Node) → P n.length → (accepted (bare n) c ≡ true → Gives P c)
-    → P (node_step c n).length
-step_length P fresh c n p w =
-    node_holds (λ n. P n.length)
-    (record { state = λ s n p. p; causes = λ internal lost n p. p; at_first = λ number. fresh; reset = λ n p. p }) c n p
-    (λ t index sub payload e.
-    home_length P index (little_endian payload) (entry_of index sub) n p (w t index sub payload e) (home_of index sub)
-    (entry_passes sub index))
+module _ (P : ℕ → Type 0) (fresh : P 3) where
+  abbrev Has : Node → Type 0
+  Has n = P n.length
+
+  either : (t : Bool) (x y : Node) → Has x → Has y → Has (cond t x y)
+  either t x y p q = picked Has t x y (λ e. p) (λ e. q)
+
+  obeyed_length : (code : ℕ) (n : Node) → Has n → Has (obey_node code n)
+  unfolding obey_node
+  obeyed_length code n p =
+      either (eqb code 1) _ _ p (either (eqb code 2) _ _ p (either (eqb code 128) _ _ p
+      (either (eqb code 129) _ _ fresh (either (eqb code 130) _ _ p p))))
+
+  next_length : (c : Plain) (n : Node) → Has n → Gives P c → Has (next_node c n)
+  unfolding next_node raise_node clear_node
+  next_length (read index sub) n p w = p
+  next_length (write index sub payload) n p w =
+      home_length P index (little_endian payload) (entry_of index sub) n p (w index sub payload refl) (home_of index sub)
+      (entry_passes sub index)
+  next_length (sample digital analogue events) n p w = p
+  next_length (command code to) n p w = either (addressed to n) _ n (obeyed_length code n p) p
+  next_length (raise Internal) n p w = p
+  next_length (raise Lost) n p w = either n.lost n _ p p
+  next_length (clear Internal) n p w = p
+  next_length (clear Lost) n p w = p
+  next_length (drive lines channels) n p w = p
+
+  pub step_length : (c : Plain) (n : Node) → P n.length → (accepted (bare n) c ≡ true → Gives P c) → P (node_step c n).length
+  step_length c n p w =
+      picked Has (device_wide c) (node_by (bare n) c n) n
+      (λ e. picked Has (accepted (bare n) c) (next_node c n) n (λ t. next_length c n p (w t)) (λ e. p)) (λ e. p)
 
 -- ---- the length after any list
 

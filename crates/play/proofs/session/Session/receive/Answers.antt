@@ -8,6 +8,6 @@ use Rattle.play.proofs.session.Session.receive.Goals as goal
 pub returns : goal.returns
 returns c =
     let whole : length c.args.out.now ≡ 8192 = search rules in
-    received c.args.self _ _ _ (plain_answer c.receive-got.result) c.receive-got.result.device c.put_receive-at.result
-    c.after.ensures whole c.args.message c.args.frame.now c.is_active-active.result c.is_long-long.result
-    c.receive-got.ensures c.is_active-active.ensures c.is_long-long.ensures c.put_receive-at.ensures
+    received c.args.self _ _ _ c.args.message c.args.frame.now (plain_answer c.receive-got.result)
+    c.receive-got.result.device c.put_receive-at.result c.after.ensures whole c.is_active-active.result
+    c.is_active-active.ensures c.is_long-long.result c.receive-got.ensures c.is_long-long.ensures c.put_receive-at.ensures

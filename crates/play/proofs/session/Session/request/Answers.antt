@@ -18,8 +18,6 @@ returns c =
     let long : length left ≡ size = c.request-got.auto.reply ∙ length-take-le size buffer c.requires.0 in
     let seen : c.first_bytes.result.now ≡ left = c.first_bytes.ensures ∙ front_is size left
     (drop size buffer) long in
-    requested c.args.self _ _ _ (request_answer got left) got.device c.put_reply-at.result c.after.ensures
-    whole c.first_bytes.result.now seen
-    (omega (arith, long, c.requires.1)) c.is_stopped-stopped.result
-    c.args.frame.now (take size buffer) c.is_stopped-stopped.ensures c.request-got.ensures
-    c.put_reply-at.ensures
+    requested c.args.self _ _ _ c.args.frame.now (take size buffer) (request_answer got left) got.device
+    c.put_reply-at.result c.after.ensures whole c.is_stopped-stopped.result c.is_stopped-stopped.ensures
+    c.first_bytes.result.now c.request-got.ensures seen (omega (arith, long, c.requires.1)) c.put_reply-at.ensures

@@ -17,6 +17,6 @@ returns c =
     c.args.frame.now c.requires.0 in
     let seen : c.first_bytes.result.now ≡ left = c.first_bytes.ensures ∙ front_is
     c.args.size left (drop c.args.size c.args.frame.now) long in
-    transmitted c.args.self _ _ _ (transmit_answer got left) got.device c.put_frame-at.result c.after.ensures whole
-    c.first_bytes.result.now seen (omega (arith, long, c.requires.1)) c.is_active-active.result c.args.message
-    (take c.args.size c.args.frame.now) c.is_active-active.ensures c.transmit-got.ensures c.put_frame-at.ensures
+    transmitted c.args.self _ _ _ c.args.message (take c.args.size c.args.frame.now) (transmit_answer got left)
+    got.device c.put_frame-at.result c.after.ensures whole c.is_active-active.result c.is_active-active.ensures
+    c.first_bytes.result.now c.transmit-got.ensures seen (omega (arith, long, c.requires.1)) c.put_frame-at.ensures
