@@ -6,7 +6,7 @@ use mathlib.Core.List.{List}
 use Prim.Native.Nat.{ℕ}
 use lib.ListN.{length}
 use lib.Dec.{eqb}
-use Rattle.profile.specs.declared.Entry.{Entry}
+use Rattle.profile.specs.Entries.{Entry}
 use Rattle.profile.specs.AnalogueOutput.{output_size}
 use Rattle.profile.specs.Entries.{above_range, below_range}
 use Rattle.channels.specs.Numbers.{NumberOf}

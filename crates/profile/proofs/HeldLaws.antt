@@ -17,7 +17,7 @@ use mir.ValLaws.{half_full}
 use mir.Facts.{Fits-of_z}
 use borrow.Author.Tests.{eqb-true, ltb-true, ltb-false}
 use Rattle.profile.specs.declared.Node.{Node}
-use Rattle.profile.specs.declared.Entry.{Entry}
+use Rattle.profile.specs.Entries.{Entry}
 use Rattle.profile.specs.declared.Home.{Home}
 use Rattle.profile.specs.declared.Home.TheVariants.{Constant, Window, InputChannel, OutputChannel, Sources, Device, MappingEntry}
 use Rattle.profile.specs.declared.AnalogueInput.{AnalogueInput}

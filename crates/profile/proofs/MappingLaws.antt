@@ -9,7 +9,7 @@ use lib.Dec.{eqb, ltb, leb}
 use lib.ListN.{length, get_or, set, take, replicate, length-set}
 use borrow.Author.Tests.{eqb-true, ltb-false, leb-true, not-false}
 use Rattle.profile.specs.declared.Node.{Node}
-use Rattle.profile.specs.declared.Entry.{Entry}
+use Rattle.profile.specs.Entries.{Entry}
 use Rattle.profile.specs.declared.Home.{Home}
 use Rattle.profile.specs.declared.Home.TheVariants.{Constant, Window, InputChannel, OutputChannel, Sources, Device, MappingEntry}
 use Rattle.profile.specs.Bytes.{little_endian}

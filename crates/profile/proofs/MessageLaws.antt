@@ -10,7 +10,7 @@ use lib.Dec.{ltb, leb}
 use lib.ListN.{length, get_or, take, drop, length-append, length-drop}
 use lib.Seq.{length-take-le, take_at, drop-append-add, drop-drop}
 use borrow.Author.Tests.{leb-true, le-ltb, le-leb}
-use Rattle.profile.specs.declared.Entry.{Entry}
+use Rattle.profile.specs.Entries.{Entry}
 use Rattle.profile.specs.declared.Message.{Message}
 use Rattle.profile.specs.declared.Message.TheVariants.{First, Second, Third, Fourth}
 use Rattle.profile.specs.declared.State.{State}

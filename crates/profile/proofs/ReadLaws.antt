@@ -12,7 +12,7 @@ use lib.ListN.{get_or}
 use mir.Syntax.{w16, w32}
 use mir.Val.{of_z}
 use borrow.Author.Tests.{eqb-true, ltb-true, leb-true, not-false}
-use Rattle.profile.specs.declared.Entry.{Entry}
+use Rattle.profile.specs.Entries.{Entry}
 use Rattle.profile.specs.declared.Home.{Home}
 use Rattle.profile.specs.declared.Home.TheVariants.{Constant, Window, InputChannel, OutputChannel, Sources, Device, MappingEntry}
 use Rattle.profile.specs.Bits.{bit}

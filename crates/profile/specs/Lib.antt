@@ -6,7 +6,9 @@ pub mod Nodes
 pub mod Entries
 pub mod MappedEntries
 pub mod Calls
+pub mod Numbers
 pub mod Refusals
+pub mod Commands
 pub mod Server
 pub mod Rules
 pub mod NodeAlone
@@ -19,6 +21,7 @@ pub mod Mapping
 pub mod Machines
 pub mod Heard
 pub mod Replies
+pub mod Answers
 pub mod Outcome
 pub mod Lists
 pub mod Bench

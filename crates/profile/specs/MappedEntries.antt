@@ -1,7 +1,7 @@
 -- Document 02, Item 1: what the entries of a process data mapping name, and how much they move.
 -- Assumes nothing.
 use Rattle.std.specs.Prelude.{Bool, false, not, cond, ◌||◌, ◌&&◌, List, [], ◌∷◌, ℕ, ◌+◌, ◌*◌, ◌/◌, ◌%◌, eqb, ltb, leb, take, replicate}
-use Rattle.profile.specs.declared.Entry.{Entry}
+use Rattle.profile.specs.Entries.{Entry}
 use Rattle.profile.specs.declared.Home.{Home}
 use Rattle.profile.specs.declared.Message.{Message}
 use Rattle.profile.specs.declared.Message.TheVariants.{First, Second, Third, Fourth}

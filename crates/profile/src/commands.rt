@@ -1,10 +1,31 @@
 // Network commands.
-pub const START: u8 = 1;
+ghost use Rattle.profile.specs.Commands.{Named};
 
-pub const STOP: u8 = 2;
+use crate::refusals::Refusal;
 
-pub const ENTER_PRE_OPERATIONAL: u8 = 128;
+// By the papers' codes.
+#[derive(Clone, Copy, Debug, PartialEq, Eq)]
+pub enum Command {
+    Start = 1,
+    Stop = 2,
+    EnterPreOperational = 128,
+    ResetNode = 129,
+    ResetCommunication = 130,
+}
 
-pub const RESET_NODE: u8 = 129;
+impl TryFrom<u8> for Command {
+    type Error = Refusal;
 
-pub const RESET_COMMUNICATION: u8 = 130;
+    ghost try_from_gives = { Named };
+
+    fn try_from(code: u8) -> Result<Command, Refusal> {
+        match code {
+            1 => Ok(Command::Start),
+            2 => Ok(Command::Stop),
+            128 => Ok(Command::EnterPreOperational),
+            129 => Ok(Command::ResetNode),
+            130 => Ok(Command::ResetCommunication),
+            _ => Err(Refusal::CommandCode),
+        }
+    }
+}

@@ -6,7 +6,7 @@ use mathlib.Core.List.{List, [], ◌∷◌, ◌++◌}
 use Prim.Native.Nat.{ℕ, zero, suc, ◌+◌, ◌*◌, ◌/◌, ◌%◌, ◌^◌, ◌≤◌}
 use native.Mathlib.Omega.{arith}
 use lib.ListN.{length, get_or, take, drop}
-use Rattle.profile.specs.declared.Entry.{Entry}
+use Rattle.profile.specs.Entries.{Entry}
 use Rattle.profile.specs.Entries.{entry_of}
 use Rattle.profile.specs.Server.{tells_size, told_size, first_of, index_in, sub_in, size_in, reply_data, reply_frame}
 use Rattle.profile.proofs.SizeLaws.{entry_sized}

@@ -10,7 +10,7 @@ use lib.Dec.{eqb, ltb}
 use lib.ListN.{length}
 use lib.Pow.{pow_mono, pow-add}
 use borrow.Author.Tests.{eqb-true, eqb-false, ltb-false}
-use Rattle.profile.specs.declared.Entry.{Entry}
+use Rattle.profile.specs.Entries.{Entry}
 use Rattle.profile.specs.declared.Home.{Home}
 use Rattle.profile.specs.declared.Home.TheVariants.{Constant, Window, InputChannel, OutputChannel, Sources, Device, MappingEntry}
 use Rattle.profile.specs.Entries.{entry_of, home_of, any, not_allowed}

@@ -3,7 +3,7 @@
 use Prim.Native.Nat.{ℕ}
 use native.Mathlib.Omega.{arith}
 use mathlib.Core.Path.{◌≡◌, sym, ap, subst, ◌∙◌}
-use Rattle.profile.specs.declared.Entry.{Entry}
+use Rattle.profile.specs.Entries.{Entry}
 use Rattle.profile.specs.declared.Home.TheVariants.{Window}
 use Rattle.profile.specs.Entries.{entry_of}
 use Rattle.profile.proofs.EntryRanges.{InRange, WindowRange, in_range}

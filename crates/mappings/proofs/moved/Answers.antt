@@ -1,7 +1,7 @@
 -- `moved` meets its contract.
 -- Assumes nothing.
 use mathlib.Core.Path.{sym, ap, ◌∙◌}
-use Rattle.profile.specs.declared.Entry.{Entry}
+use Rattle.profile.specs.Entries.{Entry}
 use Rattle.mappings.proofs.EntryLaws.{not_mappable, other_length, own_length}
 use Rattle.mappings.proofs.moved.Goals as goal
 

@@ -1,7 +1,7 @@
 -- read: refused, or the value of the entry, with the source bits cleared where they are read.
 -- Assumes nothing.
 use mathlib.Core.Path.{refl, sym, ap, ◌∙◌}
-use Rattle.profile.specs.declared.Entry.{Entry}
+use Rattle.profile.specs.Entries.{Entry}
 use Rattle.profile.specs.Entries.{home_of}
 use Rattle.profile.specs.Refusals.{refusal, read_refusal}
 use Rattle.profile.specs.Replies.{refuse}
