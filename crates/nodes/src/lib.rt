@@ -3,11 +3,12 @@
 
 ghost use Rattle.std.specs.Prelude.{◌≡◌, ◌<◌};
 ghost use Rattle.profile.specs.declared.Home.{Home};
-ghost use Rattle.profile.specs.Nodes.{stopped, operational, fault, fresh_node, with_state, loss_state, raise_node, clear_node};
+ghost use Rattle.profile.specs.Nodes.{stopped, operational, fault, fresh_node, loss_state, raise_node, clear_node};
 ghost use Rattle.profile.specs.Nodes.{addressed, reset_communication, obey_node};
+ghost use Rattle.profile.specs.Commands.{command_code};
 ghost use Rattle.profile.specs.NodeAlone.{write_node, read_node};
 
-use profile::commands::{ENTER_PRE_OPERATIONAL, RESET_COMMUNICATION, RESET_NODE, START, STOP};
+use profile::commands::Command;
 use profile::{Cause, Node, State};
 
 // Bits of the error register.
@@ -19,7 +20,7 @@ pub fn fresh(number: u8) -> Node
     ensures { result ≡ fresh_node number }
 {
     Node {
-        number: number,
+        number,
         state: State::PreOperational,
         internal: false,
         lost: false,
@@ -33,185 +34,150 @@ pub fn fresh(number: u8) -> Node
 pub fn is_stopped(node: Node) -> bool
     ensures { result ≡ stopped node }
 {
-    let state = node.state;
-    match state {
-        State::PreOperational => false,
-        State::Operational => false,
-        State::Stopped => true,
-    }
+    node.state == State::Stopped
 }
 
 pub fn is_operational(node: Node) -> bool
     ensures { result ≡ operational node }
 {
-    let state = node.state;
-    match state {
-        State::PreOperational => false,
-        State::Operational => true,
-        State::Stopped => false,
-    }
+    node.state == State::Operational
 }
 
+#[tactic(auto, unfolding(profile::specs::Nodes::fault))]
 pub fn in_fault(node: Node) -> bool
     ensures { result ≡ fault node }
 {
     node.internal | node.lost | is_stopped(node)
 }
 
-fn with_state(node: Node, state: State) -> Node
-    ensures { result ≡ with_state state node }
-{
-    Node {
-        number: node.number,
-        state: state,
-        internal: node.internal,
-        lost: node.lost,
-        behaviour: node.behaviour,
-        digital: node.digital,
-        analogue: node.analogue,
-        length: node.length,
-    }
-}
-
 // The cause becomes present, unless it is already.
-pub fn raised(mut node: Node, cause: Cause) -> Node
+#[tactic(auto, unfolding(profile::specs::Nodes::raise_node))]
+pub fn raised(node: Node, cause: Cause) -> Node
     ensures { result ≡ raise_node cause node }
 {
     match cause {
-        Cause::Internal => {
-            node.internal = true;
-            node
-        }
-        Cause::Lost => {
-            if node.lost {
-                return node;
-            }
-            let state = node.state;
-            node.lost = true;
-            with_state(node, after_loss(node.behaviour, state))
-        }
+        Cause::Internal => Node {
+            internal: true,
+            ..node
+        },
+        Cause::Lost if node.lost => node,
+        Cause::Lost => Node {
+            lost: true,
+            state: after_loss(node.behaviour, node.state),
+            ..node
+        },
     }
 }
 
-pub fn cleared(mut node: Node, cause: Cause) -> Node
+#[tactic(auto, unfolding(profile::specs::Nodes::clear_node))]
+pub fn cleared(node: Node, cause: Cause) -> Node
     ensures { result ≡ clear_node cause node }
 {
     match cause {
-        Cause::Internal => {
-            node.internal = false;
-            node
-        }
-        Cause::Lost => {
-            node.lost = false;
-            node
-        }
+        Cause::Internal => Node {
+            internal: false,
+            ..node
+        },
+        Cause::Lost => Node {
+            lost: false,
+            ..node
+        },
     }
 }
 
 // A command for node 0 is for all nodes.
+#[tactic(auto, unfolding(profile::specs::Nodes::addressed))]
 pub fn is_addressed(node: Node, to: u8) -> bool
     ensures { result ≡ addressed to node }
 {
     (to == 0) | (to == node.number)
 }
 
-// The node after one of the five commands; any other code leaves it.
-pub fn obeyed(node: Node, code: u8) -> Node
-    ensures { result ≡ obey_node code node }
+#[tactic(auto, unfolding(profile::specs::Nodes::obey_node))]
+pub fn obeyed(node: Node, command: Command) -> Node
+    ensures { result ≡ obey_node (command_code command) node }
 {
-    if code == START {
-        return with_state(node, State::Operational);
-    }
-    if code == STOP {
-        return with_state(node, State::Stopped);
-    }
-    if code == ENTER_PRE_OPERATIONAL {
-        return with_state(node, State::PreOperational);
-    }
-    if code == RESET_NODE {
-        return fresh(node.number);
-    }
-    if code == RESET_COMMUNICATION {
-        return with_communication_reset(node);
-    }
-    node
+    let state = match command {
+        Command::Start => State::Operational,
+        Command::Stop => State::Stopped,
+        Command::EnterPreOperational => State::PreOperational,
+        Command::ResetNode => return fresh(node.number),
+        Command::ResetCommunication => return with_communication_reset(node),
+    };
+    Node { state, ..node }
 }
 
-fn with_communication_reset(mut node: Node) -> Node
+fn with_communication_reset(node: Node) -> Node
     ensures { result ≡ reset_communication node }
 {
-    node.lost = false;
-    node.behaviour = 0;
-    with_state(node, State::PreOperational)
+    Node {
+        lost: false,
+        behaviour: 0,
+        state: State::PreOperational,
+        ..node
+    }
 }
 
 // An accepted write of 1029:1, 2003:0, 6005:0 or 6423:0; any other index leaves the node.
-pub fn written(mut node: Node, index: u16, value: u32) -> Node
+pub fn written(node: Node, index: u16, value: u32) -> Node
     requires { value < 256 }
     ensures { result ≡ write_node (Home.Device index) value node }
 {
-    if index == 0x1029 {
-        node.behaviour = value as u8;
-        return node;
+    match index {
+        0x1029 => Node {
+            behaviour: value as u8,
+            ..node
+        },
+        0x2003 => Node {
+            length: value as u8,
+            ..node
+        },
+        0x6005 => Node {
+            digital: value == 1,
+            ..node
+        },
+        0x6423 => Node {
+            analogue: value == 1,
+            ..node
+        },
+        _ => node,
     }
-    if index == 0x2003 {
-        node.length = value as u8;
-        return node;
-    }
-    if index == 0x6005 {
-        node.digital = value == 1;
-        return node;
-    }
-    if index == 0x6423 {
-        node.analogue = value == 1;
-    }
-    node
 }
 
+#[tactic(auto, unfolding(profile::specs::NodeAlone::read_node))]
 pub fn read(node: Node, index: u16) -> u32
     ensures { result ≡ read_node index node }
 {
-    if index == 0x1001 {
-        return error_register(node);
+    match index {
+        0x1001 => error_register(node),
+        0x1029 => u32::from(node.behaviour),
+        0x2003 => u32::from(node.length),
+        0x6005 => u32::from(node.digital),
+        _ => u32::from(node.analogue),
     }
-    if index == 0x1029 {
-        return node.behaviour as u32;
-    }
-    if index == 0x2003 {
-        return node.length as u32;
-    }
-    if index == 0x6005 {
-        return node.digital as u32;
-    }
-    node.analogue as u32
 }
 
 // Bit 0 for any cause, also bit 4 for communication loss.
+#[tactic(auto, unfolding(profile::specs::NodeAlone::read_node))]
 fn error_register(node: Node) -> u32
     ensures { result ≡ read_node 0x1001 node }
 {
     if node.lost {
-        return GENERIC_ERROR + COMMUNICATION_ERROR;
+        GENERIC_ERROR + COMMUNICATION_ERROR
+    } else if node.internal {
+        GENERIC_ERROR
+    } else {
+        0
     }
-    if node.internal {
-        return GENERIC_ERROR;
-    }
-    0
 }
 
 // 1029:1 decides what communication loss does to the state.
 fn after_loss(behaviour: u8, state: State) -> State
     ensures { result ≡ loss_state behaviour state }
 {
-    if behaviour == 0 {
-        return match state {
-            State::PreOperational => State::PreOperational,
-            State::Operational => State::PreOperational,
-            State::Stopped => State::Stopped,
-        };
+    match (behaviour, state) {
+        (0, State::Operational) => State::PreOperational,
+        (2, _) => State::Stopped,
+        _ => state,
     }
-    if behaviour == 2 {
-        return State::Stopped;
-    }
-    state
 }
