@@ -1,4 +1,3 @@
 -- Laws from the code's tables to document 01's.
 -- Assumes nothing.
 pub mod TableLaws
-pub mod CodeLaws

@@ -1,18 +1,17 @@
 -- The table of digital lines: no index stands at two places, and the lookup by a key finds the place of an index.
 -- Assumes nothing.
 use mathlib.Core.Path.{◌≡◌, refl, sym, ap, ◌∙◌, subst}
-use mathlib.Core.Bool.{Bool, true, false, cond, ◌&&◌}
-use mathlib.Core.List.{List, [], ◌∷◌, ◌++◌}
-use Prim.Native.Nat.{ℕ, zero, suc, ◌+◌, ◌*◌, ◌/◌, ◌%◌, ◌^◌, ◌≤◌, ◌<◌, suc-le-suc}
+use mathlib.Core.Bool.{Bool, true, false, ◌&&◌}
+use mathlib.Core.List.{List, [], ◌∷◌}
+use Prim.Native.Nat.{ℕ, zero, suc, ◌+◌, ◌*◌, ◌/◌, ◌%◌, ◌^◌, ◌<◌, suc-le-suc}
 use native.Mathlib.Nat.{add-zero, zero-add, add-suc, suc-add, le_of_suc-le-suc, not-suc-le-zero, zero-lt-suc, mod-lt}
 use native.Mathlib.Omega.{arith}
 use lib.Dec.{T, eqb, ltb, eqb→eq, ltb→lt}
 use lib.ListN.{length, get_or, take, drop}
-use borrow.Author.Tests.{ne_eqb, eqb-true, eqb-false, lt-ltb, le-ltb}
+use borrow.Author.Tests.{ne_eqb, eqb-true, eqb-false}
 use Rattle.profile.specs.Bytes.{list_from}
 use Rattle.dictionary.specs.Lookup.{key_of, place_word}
-use Rattle.profile.specs.Entries.{table, width_of, place, absent_entry, at, Row, window, mapping_object, mapping_objects, lookup}
-use Rattle.profile.specs.Entries.{object_of, entry_at, entry_of}
+use Rattle.profile.specs.Entries.{table, place}
 use Rattle.profile.proofs.ListLaws.{list_from_at}
 
 -- ---- a rule at each entry of a list, by one test that antt computes
@@ -131,91 +130,3 @@ missed_by x ne (nowhere e) = sym e
 
 pub hint_missed : (x : ℕ) → (x ≡ get_or (get_or rows (hint (key_of x) / 4) []) (hint (key_of x) % 4) 0 → ⊥) → 44 ≡ place table x
 hint_missed x ne = missed_by x ne (stands table x)
-
--- every index of the table is from 6000 to 63FF
-block : (p : ℕ) → p < 44 → get_or table p 0 / 1024 ≡ 24
-block p h = eqb→eq (get_or table p 0 / 1024) 24 (each (λ i x. eqb (x / 1024) 24) table tt p h)
-
-beyond_by : (x : ℕ) → (x / 1024 ≡ 24 → ⊥) → Stands table x → 44 ≡ place table x
-beyond_by x ne (there p h e) = absurd (ne (ap (λ (y : ℕ). y / 1024) e ∙ block p h))
-beyond_by x ne (nowhere e) = sym e
-
-pub beyond_missed : (x : ℕ) → (x / 1024 ≡ 24 → ⊥) → 44 ≡ place table x
-beyond_missed x ne = beyond_by x ne (stands table x)
-
--- ---- the entry by the place that was found
-
-module _ (index sub p : ℕ) (e : p ≡ place table index) where
-  entry_by : (t : Bool) → ltb p 44 ≡ t → cond t (at sub (window (p / 4) (width_of (p % 4)) sub)) (object_of index sub) ≡ entry_of index sub
-  unfolding entry_of
-  entry_by t h = ap (λ (t : Bool). cond t (at sub (window (p / 4) (width_of (p % 4)) sub)) (object_of index sub)) (sym h) ∙ ap
-      (λ (q : ℕ). entry_at q index sub) e
-
-  pub entry_inside : p < 44 → at sub (window (p / 4) (width_of (p % 4)) sub) ≡ entry_of index sub
-  entry_inside h = entry_by true (lt-ltb p 44 h)
-
-  pub entry_outside : 44 ≤ p → object_of index sub ≡ entry_of index sub
-  entry_outside h = entry_by false (le-ltb p 44 h)
-
--- ---- the other objects: an index that is none of theirs, as the default of a match has it
-
-abbrev Missed : Type 0 → List Row → ℕ → Type 0
-Missed B [] x = B
-Missed B (r ∷ rs) x = Missed (B × (x ≡ r.index → ⊥)) rs x
-
-first_of_lem : (B : Type 0) (rs : List Row) (x : ℕ) → Missed B rs x → B
-first_of_lem B [] x m = m
-first_of_lem B (r ∷ rs) x m = (first_of_lem (B × (x ≡ r.index → ⊥)) rs x m).0
-
-pub missed : (B : Type 0) (sub : ℕ) (rs rest : List Row) (x : ℕ) → Missed B rs x → lookup sub (rs ++ rest) x ≡ lookup sub rest x
-missed B sub [] rest x m = refl
-missed B sub (r ∷ rs) rest x m =
-    ap (λ (t : Bool). elim t [ true ↦ at sub r.object | false ↦ lookup sub (rs ++ rest) x ])
-    (ne_eqb x r.index (first_of_lem (B × (x ≡ r.index → ⊥)) rs x m).1)
-    ∙ missed (B × (x ≡ r.index → ⊥)) sub rs rest x m
-
--- ---- the mappings, by the index without its last two bits
-
-module _ (sub : ℕ) where
-  received : (r : ℕ) → r < 4 → lookup sub (mapping_objects sub) (0x1600 + r) ≡ at sub (mapping_object r sub)
-  received zero h = refl
-  received (suc zero) h = refl
-  received (suc (suc zero)) h = refl
-  received (suc (suc (suc zero))) h = refl
-  received (suc (suc (suc (suc r)))) h = absurd (omega arith)
-
-  transmitted : (r : ℕ) → r < 4 → lookup sub (mapping_objects sub) (0x1A00 + r) ≡ at sub (mapping_object (4 + r) sub)
-  transmitted zero h = refl
-  transmitted (suc zero) h = refl
-  transmitted (suc (suc zero)) h = refl
-  transmitted (suc (suc (suc zero))) h = refl
-  transmitted (suc (suc (suc (suc r)))) h = absurd (omega arith)
-
-  pub receive_object : (x : ℕ) → x / 4 ≡ 0x580 → lookup sub (mapping_objects sub) x ≡ at sub (mapping_object (x % 4) sub)
-  receive_object x e = let q : x ≡ 0x1600 + x % 4 = omega arith in ap (lookup sub (mapping_objects sub)) q ∙ received (x % 4) (omega arith)
-
-  pub transmit_object : (x : ℕ) → x / 4 ≡ 0x680 → lookup sub (mapping_objects sub) x ≡ at sub (mapping_object (4 + x % 4) sub)
-  transmit_object x e = let q : x ≡ 0x1A00 + x % 4 = omega arith in ap (lookup sub (mapping_objects sub)) q ∙ transmitted (x % 4)
-      (omega arith)
-
-  pub no_mapping : (x : ℕ) → (x / 4 ≡ 0x580 → ⊥) → (x / 4 ≡ 0x680 → ⊥) → lookup sub (mapping_objects sub) x ≡ absent_entry 0x06020000
-  no_mapping x p q =
-      missed (Unit {0}) sub (mapping_objects sub) [] x (
-        (
-          (
-            (
-              ((((tt, a 0x1600 refl), a 0x1601 refl), a 0x1602 refl), a 0x1603 refl),
-              b 0x1A00 refl,
-            ),
-            b 0x1A01 refl,
-          ),
-          b 0x1A02 refl,
-        ),
-        b 0x1A03 refl,
-      )
-    where
-      a : (n : ℕ) → n / 4 ≡ 0x580 → x ≡ n → ⊥
-      a n e h = p (ap (λ (y : ℕ). y / 4) h ∙ e)
-
-      b : (n : ℕ) → n / 4 ≡ 0x680 → x ≡ n → ⊥
-      b n e h = q (ap (λ (y : ℕ). y / 4) h ∙ e)

@@ -1,7 +1,7 @@
 -- How the table of digital lines is looked up: by a key that no two of its indices share, in words that hold eight places.
 -- Assumes nothing.
-use Rattle.std.specs.Prelude.{true, false, List, [], ◌∷◌, ℕ, zero, suc, ◌+◌, ◌*◌, ◌/◌, ◌%◌, eqb}
-use Rattle.profile.specs.Entries.{table}
+use Rattle.std.specs.Prelude.{◌≡◌, ◌<◌, true, false, List, [], ◌∷◌, ℕ, zero, suc, ◌+◌, ◌*◌, ◌/◌, ◌%◌, eqb, Option, Some, None}
+use Rattle.profile.specs.Entries.{table, place}
 
 -- the key of an index
 abbrev pub key_of : ℕ → ℕ
@@ -20,3 +20,8 @@ digits b (suc n) f = f 0 + b * digits b n (λ j. f (suc j))
 -- the places of eight keys
 abbrev pub place_word : ℕ → ℕ
 place_word n = digits 256 8 (λ j. keyed table 0 (8 * n + j))
+
+-- the place of an index in the table, where it stands in the table
+abbrev pub IsPlace : ℕ → Option ℕ → Type 0
+IsPlace index (Some p) = (p < 44) × (p ≡ place table index)
+IsPlace index None = 44 ≡ place table index

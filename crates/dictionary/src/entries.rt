@@ -1,10 +1,11 @@
 // The object dictionary of documents 01 and 02: which entry an index and a sub-index name.
-ghost use Rattle.std.specs.Prelude.{◌≡◌, ◌<◌, ◌-◌};
-ghost use Rattle.dictionary.specs.Lookup.{place_word};
-ghost use Rattle.profile.specs.Entries.{table, place, width_of, absent_entry, at, object, reading, setting, short, window};
-ghost use Rattle.profile.specs.Entries.{mapping_object, mapping_objects, lookup, object_of, entry_of, not_allowed};
+ghost use Rattle.std.specs.Prelude.{◌≡◌, ◌<◌};
+ghost use Rattle.dictionary.specs.Lookup.{place_word, IsPlace};
+ghost use Rattle.profile.specs.Entries.{width_of, at, object, reading, setting, short, window};
+ghost use Rattle.profile.specs.Entries.{mapping_object, mapping_objects, lookup, object_of, entry_of};
+ghost use Rattle.profile.specs.Answers.{found};
 
-use crate::refusals::{NO_OBJECT, NO_SUB_INDEX};
+use profile::refusals::Refusal;
 use profile::{Entry, Home};
 
 // The indices of 1, 8, 16 and 32 bits, a row for each attribute of digital lines.
@@ -50,187 +51,173 @@ fn places(n: usize) -> u64
 }
 
 // The highest value of an entry that takes any.
-const ANY: u32 = 0xFFFF_FFFF;
+const ANY: u32 = u32::MAX;
 
-pub fn find(index: u16, sub: u8) -> Entry
-    ensures { result ≡ entry_of index sub }
+#[tactic(auto, unfolding(profile::specs::Entries::entry_of))]
+pub fn find(index: u16, sub: u8) -> Result<Entry, Refusal>
+    ensures { found result ≡ entry_of index sub }
 {
-    let place = place_of(index);
-    if place < 44 {
-        return window(place / 4, place % 4, sub);
+    match place_of(index) {
+        Some(place) => window(place / 4, place % 4, sub),
+        None => object(index, sub),
     }
-    object(index, sub)
 }
 
-// The value is none of those that the entry takes.
-pub(crate) fn forbids(entry: Entry, value: u32) -> bool
-    ensures { result ≡ not_allowed entry value }
+// The place of an index in the table. All of its indices are from 6000 to 63FF: any other is not looked up.
+fn place_of(index: u16) -> Option<usize>
+    ensures { IsPlace index result }
 {
-    (value < entry.lowest) | (entry.highest < value)
-}
-
-// The place of an index in the table, or the table's length. All of its indices are from 6000 to 63FF: any other is not looked up.
-fn place_of(index: u16) -> usize
-    ensures { result ≡ place table index }
-{
-    if index / 1024 != 24 {
-        return 44;
+    match index {
+        0x6000..=0x63FF => keyed_place(index),
+        _ => None,
     }
-    keyed_place(index)
 }
 
 // The same by the key.
-fn keyed_place(index: u16) -> usize
-    ensures { result ≡ place table index }
+fn keyed_place(index: u16) -> Option<usize>
+    ensures { IsPlace index result }
 {
-    let number = index as usize;
+    let number = usize::from(index);
     let key = (5 * number + number / 16) % 128;
     let word = places(key / 8);
     let place = ((word >> (8 * (key % 8))) % 256) as usize;
     if index == INDICES[place / 4][place % 4] {
-        return place;
-    }
-    44
-}
-
-// Channel 1 is 0 here; so is sub-index 0, the entry count.
-fn channel_of(sub: u8) -> usize
-    ensures { result ≡ sub - 1 }
-{
-    if sub == 0 {
-        return 0;
-    }
-    (sub as usize) - 1
-}
-
-fn absent(number: u32) -> Entry
-    ensures { result ≡ absent_entry number }
-{
-    Entry {
-        absent: number,
-        size: 0,
-        fixed: true,
-        short: false,
-        lowest: 0,
-        highest: 0,
-        home: Home::Constant(0),
+        Some(place)
+    } else {
+        None
     }
 }
 
 // What an object has at a sub-index: nothing above its last; its entry count at 0, unless that is its last; else the entry.
-fn at(
-    sub: u8,
-    last: u8,
-    size: u8,
-    fixed: bool,
-    short: bool,
-    lowest: u32,
-    highest: u32,
-    home: Home,
-) -> Entry
-    ensures { result ≡ at sub (object last size fixed short lowest highest home) }
+fn at(sub: u8, last: u8, entry: Entry) -> Result<Entry, Refusal>
+    ensures { found result
+        ≡ at sub (object last entry.size entry.fixed entry.short entry.lowest entry.highest entry.home) }
 {
     if last < sub {
-        return absent(NO_SUB_INDEX);
-    }
-    if (sub == 0) & (last != 0) {
-        return Entry {
-            absent: 0,
+        Err(Refusal::NoSubIndex)
+    } else if (sub == 0) & (last != 0) {
+        Ok(Entry {
             size: 1,
             fixed: true,
             short: false,
             lowest: 0,
             highest: 0,
-            home: Home::Constant(last as u32),
-        };
-    }
-    Entry {
-        absent: 0,
-        size,
-        fixed,
-        short,
-        lowest,
-        highest,
-        home,
+            home: Home::Constant(u32::from(last)),
+        })
+    } else {
+        Ok(entry)
     }
 }
 
 // Read only.
-fn reading(sub: u8, last: u8, size: u8, home: Home) -> Entry
-    ensures { result ≡ at sub (reading last size home) }
+fn reading(sub: u8, last: u8, size: u8, home: Home) -> Result<Entry, Refusal>
+    ensures { found result ≡ at sub (reading last size home) }
 {
-    at(sub, last, size, true, false, 0, 0, home)
+    let entry = Entry {
+        size,
+        fixed: true,
+        short: false,
+        lowest: 0,
+        highest: 0,
+        home,
+    };
+    at(sub, last, entry)
 }
 
-fn setting(sub: u8, last: u8, size: u8, lowest: u32, highest: u32, home: Home) -> Entry
-    ensures { result ≡ at sub (setting last size lowest highest home) }
+fn setting(
+    sub: u8,
+    last: u8,
+    size: u8,
+    lowest: u32,
+    highest: u32,
+    home: Home,
+) -> Result<Entry, Refusal>
+    ensures { found result ≡ at sub (setting last size lowest highest home) }
 {
-    at(sub, last, size, false, false, lowest, highest, home)
+    let entry = Entry {
+        size,
+        fixed: false,
+        short: false,
+        lowest,
+        highest,
+        home,
+    };
+    at(sub, last, entry)
 }
 
 // Four bytes for the numbers of 16 bits.
-fn short(sub: u8, last: u8, home: Home) -> Entry
-    ensures { result ≡ at sub (short last home) }
+fn short(sub: u8, last: u8, home: Home) -> Result<Entry, Refusal>
+    ensures { found result ≡ at sub (short last home) }
 {
-    at(sub, last, 4, false, true, 0, ANY, home)
+    let entry = Entry {
+        size: 4,
+        fixed: false,
+        short: true,
+        lowest: 0,
+        highest: ANY,
+        home,
+    };
+    at(sub, last, entry)
 }
 
 // By the row and the column of the table of digital lines. An entry of one line is one byte.
-fn window(row: usize, column: usize, sub: u8) -> Entry
+fn window(row: usize, column: usize, sub: u8) -> Result<Entry, Refusal>
     requires { column < 4 }
-    ensures { result ≡ at sub (window row (width_of column) sub) }
+    ensures { found result ≡ at sub (window row (width_of column) sub) }
 {
-    let s = sub as usize;
-    let input = row == 0;
-    match column {
-        0 => at(sub, 128, 1, input, false, 0, 1, Home::Window(row, 1, s)),
-        1 => at(sub, 16, 1, input, false, 0, ANY, Home::Window(row, 8, s)),
-        2 => at(sub, 8, 2, input, false, 0, ANY, Home::Window(row, 16, s)),
-        _ => at(sub, 4, 4, input, false, 0, ANY, Home::Window(row, 32, s)),
-    }
+    let (last, size, highest, width) = match column {
+        0 => (128, 1, 1, 1),
+        1 => (16, 1, ANY, 8),
+        2 => (8, 2, ANY, 16),
+        _ => (4, 4, ANY, 32),
+    };
+    let entry = Entry {
+        size,
+        fixed: row == 0,
+        short: false,
+        lowest: 0,
+        highest,
+        home: Home::Window(row, width, usize::from(sub)),
+    };
+    at(sub, last, entry)
 }
 
 // A process data mapping: which of the eight. Its entry count is written.
-fn mapping(sub: u8, m: usize) -> Entry
-    ensures { result ≡ at sub (mapping_object m sub) }
+fn mapping(sub: u8, m: usize) -> Result<Entry, Refusal>
+    ensures { found result ≡ at sub (mapping_object m sub) }
 {
-    let home = Home::MappingEntry(m, sub as usize);
-    if sub == 0 {
-        return Entry {
-            absent: 0,
-            size: 1,
-            fixed: false,
-            short: false,
-            lowest: 0,
-            highest: ANY,
-            home,
-        };
+    let entry = Entry {
+        size: if sub == 0 { 1 } else { 4 },
+        fixed: false,
+        short: false,
+        lowest: 0,
+        highest: ANY,
+        home: Home::MappingEntry(m, usize::from(sub)),
+    };
+    if 8 < sub {
+        Err(Refusal::NoSubIndex)
+    } else {
+        Ok(entry)
     }
-    at(sub, 8, 4, false, false, 0, ANY, home)
 }
 
-// 1600 to 1603, and 1A00 to 1A03: by the index without its last two bits. A higher index is no mapping at the first comparison.
-fn mapping_object(index: u16, sub: u8) -> Entry
-    ensures { result ≡ lookup sub (mapping_objects sub) index }
+// 1600 to 1603, and 1A00 to 1A03.
+fn mapping_object(index: u16, sub: u8) -> Result<Entry, Refusal>
+    ensures { found result ≡ lookup sub (mapping_objects sub) index }
 {
-    if 0x1A03 < index {
-        return absent(NO_OBJECT);
+    match index {
+        0x1600..=0x1603 => mapping(sub, usize::from(index) - 0x1600),
+        0x1A00..=0x1A03 => mapping(sub, usize::from(index) - 0x1A00 + 4),
+        _ => Err(Refusal::NoObject),
     }
-    let m = (index % 4) as usize;
-    if index / 4 == 0x580 {
-        return mapping(sub, m);
-    }
-    if index / 4 == 0x680 {
-        return mapping(sub, 4 + m);
-    }
-    absent(NO_OBJECT)
 }
 
-// The objects outside the table of digital lines.
-fn object(index: u16, sub: u8) -> Entry
-    ensures { result ≡ object_of index sub }
+// The objects outside the table of digital lines, by channel from 0; sub-index 0, the entry count, names channel 0 too.
+#[tactic(auto, unfolding(profile::specs::Entries::object_of))]
+fn object(index: u16, sub: u8) -> Result<Entry, Refusal>
+    ensures { found result ≡ object_of index sub }
 {
-    let n = channel_of(sub);
+    let n = usize::from(sub).saturating_sub(1);
     match index {
         0x1000 => reading(sub, 0, 4, Home::Constant(0x000F_0191)),
         0x1001 => reading(sub, 0, 1, Home::Device(index)),

@@ -1,13 +1,8 @@
 -- `entries::places` meets its contract, arm by arm.
 -- Assumes nothing.
 use mathlib.Core.Path.{◌≡◌, refl}
-use Prim.Native.Nat.{ℕ, suc, ◌≤◌}
 use native.Mathlib.Omega.{arith}
 use Rattle.dictionary.proofs.entries.places.Goals as goal
-
--- one more number is passed
-past : (k n : ℕ) → k ≤ n → (n ≡ k → ⊥) → suc k ≤ n
-past k n h ne = omega (arith, h, ne)
 
 pub returns-in-0 : goal.returns-in-0
 returns-in-0 c = rw c.in-0.is refl
@@ -55,17 +50,4 @@ pub returns-in-14 : goal.returns-in-14
 returns-in-14 c = rw c.in-14.is refl
 
 pub returns-in_default : goal.returns-in_default
-returns-in_default c =
-    let r = c.in_default.in_default-own.rest in
-    let least : 15 ≤ c.args.n = (past 14 _
-    (past 13 _ (past 12 _ (past 11 _
-    (past 10 _ (past 9 _ (past 8 _
-    (past 7 _ (past 6 _ (past 5 _
-    (past 4 _ (past 3 _ (past 2 _
-    (past 1 _ (past 0 _ (omega arith) r.0.0.0.0.0.0.0.0.0.0.0.0.0.0.1)
-    r.0.0.0.0.0.0.0.0.0.0.0.0.0.1) r.0.0.0.0.0.0.0.0.0.0.0.0.1)
-    r.0.0.0.0.0.0.0.0.0.0.0.1) r.0.0.0.0.0.0.0.0.0.0.1) r.0.0.0.0.0.0.0.0.0.1)
-    r.0.0.0.0.0.0.0.0.1) r.0.0.0.0.0.0.0.1) r.0.0.0.0.0.0.1) r.0.0.0.0.0.1) r.0.0.0.0.1)
-    r.0.0.0.1) r.0.0.1) r.0.1) r.1) in
-    let last : c.args.n ≡ 15 = omega (arith, c.requires, least) in
-    rw last refl
+returns-in_default c = let last : c.args.n ≡ 15 = omega arith in rw last refl
