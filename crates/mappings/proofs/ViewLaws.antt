@@ -3,13 +3,14 @@
 use mathlib.Core.Path.{◌≡◌, refl, ap, ◌∙◌, sym}
 use mathlib.Core.Bool.{Bool, true, false, cond}
 use mathlib.Core.List.{List, [], ◌∷◌}
-use Prim.Native.Nat.{ℕ, zero, suc, ◌+◌, ◌*◌, ◌-◌, ◌/◌, ◌%◌, ◌≤◌, ◌<◌}
+use Prim.Native.Nat.{ℕ, zero, suc, min, ◌+◌, ◌*◌, ◌-◌, ◌/◌, ◌%◌, ◌≤◌, ◌<◌}
 use native.Mathlib.Nat.{zero-add}
 use native.Mathlib.Omega.{arith}
 use lib.Dec.{eqb}
 use lib.ListN.{length, get_or, set, take, length-set}
 use lib.Seq.{get_or-set_same, get_or-set_other, ext_get_or, take_all, length-take-le}
 use borrow.Author.Tests.{eqb-true, eqb-false}
+use Rattle.std.proofs.lemmas.List.{take_min}
 use Rattle.profile.specs.Bytes.{list_from}
 use Rattle.profile.specs.MappedEntries.{moved, total}
 use Rattle.profile.specs.Mapping.{read_mapping, write_mapping}
@@ -133,15 +134,13 @@ pub first_entries : (deltas : List ℕ) (m n : ℕ) (entries : List ℕ) → ent
     → length (take n entries) ≡ n
 first_entries deltas m n entries e h = length-take-le n entries (omega (arith, ap length e, eight_entries deltas m))
 
--- a count above eight puts all eight in force
-pub all_in_force : (deltas : List ℕ) (m : ℕ) → 8 < (mapping_at deltas m).count → InForce deltas m 8
-all_in_force deltas m h =
-    let entries = (mapping_at deltas m).entries in
-    let long = eight_entries deltas m in
-    record {
-      few = omega arith;
-      are = take_all 8 entries (omega (arith, long)) ∙ sym (take_all (mapping_at deltas m).count entries (omega (arith, long, h)));
-    }
+-- at most eight are in force
+pub at_most_eight : (deltas : List ℕ) (m n : ℕ) → n ≡ min (mapping_at deltas m).count 8 → InForce deltas m n
+at_most_eight deltas m n e =
+    record { few = omega (arith, e); are = ap (λ (k : ℕ). take k (mapping_at deltas m).entries) e ∙ all (mapping_at deltas m).count }
+  where
+    all : (k : ℕ) → take (min k 8) (mapping_at deltas m).entries ≡ take k (mapping_at deltas m).entries
+    all k = ap (λ (n : ℕ). take (min k n) (mapping_at deltas m).entries) (sym (eight_entries deltas m)) ∙ take_min k (mapping_at deltas m).entries
 
 -- ---- the bytes that entries move
 

@@ -1,16 +1,17 @@
 // The process data mappings of document 02: what their entries move, and the eight of them in the array that the device lends.
 #![tactic(auto)]
 
-ghost use Rattle.std.specs.Prelude.{◌≡◌, cond, ◌≤◌, ◌<◌, eqb, length};
+ghost use Rattle.std.specs.Prelude.{◌≡◌, ◌≤◌, ◌<◌, length};
 ghost use Rattle.profile.specs.MappedEntries.{received, transmitted, index_of, sub_of, mappable, moved, total};
 ghost use Rattle.profile.specs.Mapping.{read_mapping};
+ghost use Rattle.profile.specs.Numbers.{number_answered};
 ghost use Rattle.profile.specs.Refusals.{first, mapping_checks};
 ghost use Rattle.mappings.specs.View.{mapping_at, MappingStored, InForce};
 ghost use Rattle.channels.specs.View.{Zeroed};
 
 use channels::fields::{DELTAS, Deltas, zero_deltas};
 use dictionary::entries::find;
-use dictionary::refusals::{COUNT_NOT_ZERO, MAPPING_TOO_LONG, NOT_MAPPABLE};
+use profile::refusals::Refusal;
 use profile::{Home, Message};
 
 // In deltas, after those of the channels.
@@ -31,24 +32,14 @@ const OUTPUT: usize = 6;
 pub fn received(message: Message) -> usize
     ensures { result ≡ received message }
 {
-    match message {
-        Message::First => 0,
-        Message::Second => 1,
-        Message::Third => 2,
-        Message::Fourth => 3,
-    }
+    message as usize
 }
 
 // And of its transmit mapping.
 pub fn transmitted(message: Message) -> usize
     ensures { result ≡ transmitted message }
 {
-    match message {
-        Message::First => 4,
-        Message::Second => 5,
-        Message::Third => 6,
-        Message::Fourth => 7,
-    }
+    4 + message as usize
 }
 
 // An entry of a mapping names an index, a sub-index, and how many bits they have.
@@ -70,39 +61,29 @@ fn is_mappable(mapping: usize, home: Home) -> bool
 {
     let receives = mapping < 4;
     match home {
-        Home::Constant(_) => false,
-        Home::Window(row, width, _) => takes_row(receives, row) & (8 <= width),
+        Home::Window(row, width, _) => {
+            let taken = if receives { OUTPUT } else { INPUT };
+            (row == taken) & (8 <= width)
+        }
         Home::InputChannel(index, _) => !receives & (index == 0x6401),
         Home::OutputChannel(index, _) => receives & (index == 0x6411),
-        Home::Sources => false,
-        Home::Device(_) => false,
-        Home::MappingEntry(_, _) => false,
+        _ => false,
     }
-}
-
-fn takes_row(receives: bool, row: usize) -> bool
-    ensures { result ≡ eqb row (cond receives 6 0) }
-{
-    if receives {
-        return row == OUTPUT;
-    }
-    row == INPUT
 }
 
 // How many bytes an entry moves: none where it is 0.
 pub fn moved(mapping: usize, value: u32) -> usize
     ensures { result ≡ moved mapping value }
 {
-    let entry = find(index_of(value), sub_of(value));
-    let home = entry.home;
-    if !is_mappable(mapping, home) {
+    let Ok(entry) = find(index_of(value), sub_of(value)) else {
         return 0;
+    };
+    let size = usize::from(entry.size);
+    if is_mappable(mapping, entry.home) & ((value % 256) as usize == 8 * size) {
+        size
+    } else {
+        0
     }
-    let size = entry.size as usize;
-    if (value % 256) as usize != 8 * size {
-        return 0;
-    }
-    size
 }
 
 // And several.
@@ -110,12 +91,9 @@ pub fn total(mapping: usize, entries: &[u32]) -> usize
     requires { length entries.now ≤ 8 }
     ensures { result ≡ total mapping entries.now }
 {
-    let mut sum: usize = 0;
-    let mut j: usize = 0;
-    while j < entries.len() {
-        let entry = entries[j];
+    let mut sum = 0;
+    for &entry in entries {
         sum += moved(mapping, entry);
-        j += 1;
     }
     sum
 }
@@ -156,16 +134,10 @@ pub fn entries_at(deltas: &Deltas, m: usize) -> [u32; 8]
     requires { m < 8 }
     ensures { result ≡ (mapping_at deltas.now m).entries }
 {
-    [
-        read(deltas, m, 1),
-        read(deltas, m, 2),
-        read(deltas, m, 3),
-        read(deltas, m, 4),
-        read(deltas, m, 5),
-        read(deltas, m, 6),
-        read(deltas, m, 7),
-        read(deltas, m, 8),
-    ]
+    let first = MAPPINGS + NUMBERS * m + 1;
+    let mut entries = [0; 8];
+    entries.copy_from_slice(&deltas[first..first + 8]);
+    entries
 }
 
 // How many of them are in force.
@@ -173,44 +145,34 @@ pub fn in_force(deltas: &Deltas, m: usize) -> usize
     requires { m < 8 }
     ensures { InForce deltas.now m result }
 {
-    let count = read(deltas, m, 0);
-    if 8 < count {
-        return 8;
-    }
-    count as usize
+    (read(deltas, m, 0) as usize).min(8)
 }
 
-// Why a value is not written to a mapping, 0 where it is.
-pub fn refusal(deltas: &Deltas, m: usize, sub: usize, value: u32) -> u32
+// Whether a value may be written to a mapping.
+pub fn check(deltas: &Deltas, m: usize, sub: usize, value: u32) -> Result<(), Refusal>
     requires { m < 8 }
-    ensures { result ≡ first (mapping_checks (mapping_at deltas.now m) m sub value) }
+    ensures { number_answered result ≡ first (mapping_checks (mapping_at deltas.now m) m sub value) }
 {
     if sub == 0 {
-        return count_refusal(deltas, m, value);
+        return check_count(deltas, m, value);
     }
     if read(deltas, m, 0) != 0 {
-        return COUNT_NOT_ZERO;
+        return Err(Refusal::CountNotZero);
     }
-    if value == 0 {
-        return 0;
+    if (value != 0) & (moved(m, value) == 0) {
+        return Err(Refusal::NotMappable);
     }
-    if moved(m, value) == 0 {
-        return NOT_MAPPABLE;
-    }
-    0
+    Ok(())
 }
 
-fn count_refusal(deltas: &Deltas, m: usize, value: u32) -> u32
+fn check_count(deltas: &Deltas, m: usize, value: u32) -> Result<(), Refusal>
     requires { m < 8 }
-    ensures { result ≡ first (mapping_checks (mapping_at deltas.now m) m 0 value) }
+    ensures { number_answered result ≡ first (mapping_checks (mapping_at deltas.now m) m 0 value) }
 {
-    if 8 < value {
-        return MAPPING_TOO_LONG;
-    }
+    let count = value as usize;
     let entries = entries_at(deltas, m);
-    let n = value as usize;
-    if 8 < total(m, &entries[..n]) {
-        return MAPPING_TOO_LONG;
+    if (8 < count) | (8 < total(m, &entries[..count.min(8)])) {
+        return Err(Refusal::MappingTooLong);
     }
-    0
+    Ok(())
 }
