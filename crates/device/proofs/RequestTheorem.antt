@@ -7,6 +7,8 @@ use mathlib.Core.List.{List, [], ◌∷◌}
 use Prim.Native.Nat.{ℕ}
 use native.Mathlib.Omega.{arith}
 use lib.ListN.{length}
+use Rattle.std.specs.Prelude.{Result}
+use Rattle.profile.specs.declared.refusals.Refusal.{Refusal}
 use Rattle.profile.specs.Nodes.{stopped}
 use Rattle.profile.specs.Calls.{Plain, Call, direct, request, Reply}
 use Rattle.profile.specs.Refusals.{created_number}
@@ -20,7 +22,6 @@ use Rattle.profile.specs.ServerClaims.{decoded, short_call, AsPlain, Unheard}
 use Rattle.profile.proofs.ReplyLaws.{reply_cong}
 use Rattle.profile.proofs.ServerLaws.{served_machines, as_plain}
 use Rattle.device.specs.declared.Device.{Device}
-use Rattle.device.specs.declared.Created.{Created}
 use Rattle.device.specs.View.{machines_of, Normal}
 use Rattle.device.specs.Promises.{CreatedAs, Allowed, Ensured}
 use Rattle.device.proofs.Determined.{determined, refused_very_device}
@@ -35,13 +36,13 @@ pub record SameAsPlain (frame : List ℕ) (a b : Reply) (r s : Device) : Type 0 
   pub count : a.count ≡ 8
 
 -- for every request that is a plain call, of a device that is not stopped, after any list of calls whose samples bring numbers of 16 bits
-pub request_as_plain : (number : ℕ) (created : Created) → CreatedAs number created
-    → (cs : List Call) (rs : List Reply) (d : Device) → Run Ensured created.device cs rs d → every short_call cs ≡ true
+pub request_as_plain : (number : ℕ) (answer : Result (Unit {0}) Refusal) (created : Device) → CreatedAs number answer created
+    → (cs : List Call) (rs : List Reply) (d : Device) → Run Ensured created cs rs d → every short_call cs ≡ true
     → (frame buffer : List ℕ) (c : Plain) → length frame ≡ 8 → length buffer ≡ 8 → stopped (machines_of d node_alone 0).node ≡ false
     → asked frame ≡ c ∷ [] → (a b : Reply) (r s : Device) → Allowed r → Allowed s → Ensured d (request frame buffer) a r
     → Ensured d (direct c) b s → SameAsPlain frame a b r s
-request_as_plain number created made cs rs d run short frame buffer c l k running one a b r s p q o u =
-    let normal = stays_normal created.device cs rs d run made.normal in
+request_as_plain number answer created made cs rs d run short frame buffer c l k running one a b r s p q o u =
+    let normal = stays_normal created cs rs d run made.normal in
     let steps = served_machines (machines_of d) frame buffer c l k running one in
     record {
       device = determined r s p q (o.normal normal) (u.normal normal) (record {
@@ -54,7 +55,7 @@ request_as_plain number created made cs rs d run short frame buffer c l k runnin
     }
   where
     left : Same (machines_of d) (after (created_number number) cs)
-    left = (every_list_of_calls number created made cs rs d run).machines
+    left = (every_list_of_calls number answer created made cs rs d run).machines
 
     requested : a ≡ reply (after (created_number number) cs) (request frame buffer)
     requested = o.outcome.replied ∙ reply_cong (machines_of d) (after (created_number number) cs) left (request frame buffer)

@@ -1,45 +1,24 @@
 // request as a method.
 ghost use Rattle.std.specs.Prelude.{◌≡◌};
+ghost use Rattle.profile.specs.Answers.{buffer_answer};
 ghost use Rattle.profile.specs.Nodes.{stopped};
 ghost use Rattle.profile.specs.Machines.{node_alone};
 ghost use Rattle.profile.specs.Calls.{Call};
-ghost use Rattle.device.specs.View.{machines_of, request_answer};
+ghost use Rattle.device.specs.View.{machines_of};
 ghost use Rattle.device.specs.Promises.{Ensured};
 
-use crate::{Device, RequestAnswer};
+use crate::{Answer, Device};
 use nodes::is_stopped;
-use store::node_at;
 
 impl Device {
-    pub fn request(mut self, frame: &[u8], reply: &mut [u8]) -> RequestAnswer
-        ensures { Ensured self (Call.request frame.now reply.old) (request_answer result reply.new)
+    // The answer is the reply's length: 8, or 0 where there is none.
+    pub fn request(mut self, frame: &[u8], reply: &mut [u8]) -> Answer<usize>
+        ensures { Ensured self (Call.request frame.now reply.old) (buffer_answer result.answer reply.new)
             result.device }
     {
-        let mut octets = self.octets;
-        let mut flags = self.flags;
-        let mut words = self.words;
-        let mut limits = self.limits;
-        let mut deltas = self.deltas;
-        let mut values = self.values;
-        let done = server::request(
-            &mut octets,
-            &mut flags,
-            &mut words,
-            &mut limits,
-            &mut deltas,
-            &mut values,
-            frame,
-            reply,
-        );
-        self.octets = octets;
-        self.flags = flags;
-        self.words = words;
-        self.limits = limits;
-        self.deltas = deltas;
-        self.values = values;
-        RequestAnswer {
-            number: done.number,
-            length: done.length,
+        let answer = server::request(&mut self.store, frame, reply);
+        Answer {
+            answer,
             device: self,
         }
     }
@@ -48,9 +27,6 @@ impl Device {
     pub fn is_stopped(self) -> bool
         ensures { result ≡ stopped (machines_of self node_alone 0).node }
     {
-        let octets = self.octets;
-        let flags = self.flags;
-        let was = node_at(&octets, &flags);
-        is_stopped(was)
+        is_stopped(self.store.node())
     }
 }

@@ -1,8 +1,9 @@
-// The device's eleven calls for firmware in C, in place on the six arrays that the firmware lends. Each exported function is the device's
-// own and promises what it promises. It takes a pointer to each array that it needs; the header's io401_X(io401_device *, ..) passes
-// io401_X_arrays those of one device.
+// The device's eleven calls for firmware in C, in place on the device that the firmware lends: it is the header's io401_device. Each
+// exported function is the device's own and promises what it promises.
 #![tactic(auto)]
 
+// What the calls answer to C.
+pub mod answers;
 // The calls.
 pub mod calls;
 // Between C and the device's types.

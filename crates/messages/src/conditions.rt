@@ -5,27 +5,24 @@ ghost use Rattle.profile.specs.MappedEntries as mapped;
 ghost use Rattle.mappings.specs.View.{mapping_at};
 ghost use Rattle.store.specs.View.{node_at};
 
-use channels::fields::{Deltas, Flags, Octets};
 use mappings::{entries_at, in_force, received, total};
 use nodes::is_operational;
 use profile::Message;
-use store::node_at;
+use store::Store;
 
-pub fn is_active(octets: &Octets, flags: &Flags) -> bool
-    ensures { result ≡ operational (node_at octets.now flags.now) }
+pub fn is_active(store: &Store) -> bool
+    ensures { result ≡ operational (node_at store.now.octets store.now.flags) }
 {
-    let was = node_at(octets, flags);
-    is_operational(was)
+    is_operational(store.node())
 }
 
 // A frame of that many bytes has all that its mapping moves.
-pub fn is_long(deltas: &Deltas, message: Message, size: usize) -> bool
+pub fn is_long(store: &Store, message: Message, size: usize) -> bool
     ensures { result ≡ leb (mapped.total (mapped.received message)
-        (mapped.listed (mapping_at deltas.now (mapped.received message)))) size }
+        (mapped.listed (mapping_at store.now.deltas (mapped.received message)))) size }
 {
     let m = received(message);
-    let entries = entries_at(deltas, m);
-    let n = in_force(deltas, m);
-    let bytes = total(m, &entries[..n]);
-    bytes <= size
+    let entries = entries_at(&store.deltas, m);
+    let n = in_force(&store.deltas, m);
+    total(m, &entries[..n]) <= size
 }

@@ -7,12 +7,3 @@ pub mod conditions;
 pub mod received;
 // A frame filled from the entries of a mapping.
 pub mod transmitted;
-
-// What a transmit in place answers.
-#[repr(C)]
-#[derive(Clone, Copy)]
-pub struct TransmitNumber {
-    pub number: u32,
-    // Of bytes written.
-    pub count: usize,
-}

@@ -2,105 +2,64 @@
 #![tactic(auto)]
 
 ghost use Rattle.std.specs.Prelude.{◌≡◌, ◌++◌, length};
+ghost use Rattle.profile.specs.Numbers.{number_answered};
+ghost use Rattle.profile.specs.Answers.{present, plain_answer, read_answer};
 ghost use Rattle.profile.specs.Refusals.{first, value_checks};
 ghost use Rattle.profile.specs.Calls.{Plain, direct};
-ghost use Rattle.profile.specs.Replies.{read_value, plain};
-ghost use Rattle.store.specs.View.{held, parts_of, machines_of, Sized};
+ghost use Rattle.profile.specs.Replies.{read_value};
+ghost use Rattle.store.specs.View.{parts_of, machines_of, with_octets};
 ghost use Rattle.store.specs.Promises.{Ensured, Stepped, wrote, Readable, Writable, SourcesRead, held_by};
-ghost use Rattle.objects.specs.View.{read_number};
 
 use analogue_inputs::{clear_sources, read_input, read_sources};
 use analogue_outputs::read_output;
-use channels::fields::{Deltas, Flags, Limits, Octets, Values, input_at, output_at};
+use channels::fields::{Deltas, Octets, input_at, output_at};
 use channels::numbers::number;
 use dictionary::entries::find;
-use dictionary::refusals::{access_refusal, entry_refusal, value_refusal};
+use dictionary::refusals::{check_access, check_value};
 use lines::machines;
 use nodes::{in_fault, is_stopped, written};
-use profile::{Entry, Home};
-use store::{lend, lend_settings, node_at, set_node};
-use windows::Words;
+use profile::refusals::Refusal;
+use profile::{Entry, Home, ReadValue};
+use store::Store;
 
-// What a read in place answers.
-#[repr(C)]
-#[derive(Clone, Copy)]
-pub struct ReadNumber {
-    pub number: u32,
-    pub value: u32,
-    // In bytes.
-    pub size: usize,
-}
-
-pub fn read(
-    octets: &mut Octets,
-    flags: &Flags,
-    words: &Words,
-    limits: &Limits,
-    deltas: &Deltas,
-    values: &Values,
-    index: u16,
-    sub: u8,
-) -> ReadNumber
-    ensures { Ensured
-        (held octets.old flags.now words.now limits.now deltas.now
-        values.now)
-        (direct (Plain.read index sub)) (read_number result)
-        (held octets.new flags.now words.now limits.now deltas.now
-        values.now) }
+pub fn read(store: &mut Store, index: u16, sub: u8) -> Result<ReadValue, Refusal>
+    ensures call { Ensured store.old (direct (Plain.read index sub)) (read_answer result) store.new }
+    ensures kept { store.new ≡ with_octets store.new.octets store.old }
 {
-    lend(octets, flags, words, values);
-    let entry = find(index, sub);
-    let was = node_at(octets, flags);
-    let refused = entry_refusal(is_stopped(was), entry);
-    if refused != 0 {
-        return ReadNumber {
-            number: refused,
-            value: 0,
-            size: 0,
-        };
+    if is_stopped(store.node()) {
+        return Err(Refusal::Stopped);
     }
-    let home = entry.home;
-    let value = value_at(octets, flags, words, limits, deltas, values, home);
-    take_sources(octets, home);
-    ReadNumber {
-        number: 0,
+    let entry = find(index, sub)?;
+    let value = value_at(store, entry.home);
+    take_sources(&mut store.octets, entry.home);
+    Ok(ReadValue {
         value,
-        size: entry.size as usize,
-    }
+        size: usize::from(entry.size),
+    })
 }
 
 // The value that a read of an entry answers.
-fn value_at(
-    octets: &Octets,
-    flags: &Flags,
-    words: &Words,
-    limits: &Limits,
-    deltas: &Deltas,
-    values: &Values,
-    home: Home,
-) -> u32
+fn value_at(store: &Store, home: Home) -> u32
     requires { Readable home }
-    ensures { result ≡ read_value (machines_of
-        (held octets.now flags.now words.now limits.now deltas.now
-        values.now)) home }
+    ensures { result ≡ read_value (machines_of store.now) home }
 {
     match home {
         Home::Constant(value) => value,
-        Home::Window(row, width, sub) => machines::read(words, row, width, sub),
+        Home::Window(row, width, sub) => machines::read(&store.words, row, width, sub),
         Home::InputChannel(index, n) => {
-            let channel = input_at(octets, limits, deltas, values, n);
+            let channel = input_at(
+                &store.octets,
+                &store.limits,
+                &store.deltas,
+                &store.values,
+                n,
+            );
             read_input(channel, index)
         }
-        Home::OutputChannel(index, n) => {
-            let channel = output_at(flags, values, n);
-            read_output(channel, index)
-        }
-        Home::Sources => read_sources(octets),
-        Home::Device(index) => {
-            let was = node_at(octets, flags);
-            nodes::read(was, index)
-        }
-        Home::MappingEntry(m, sub) => mappings::read(deltas, m, sub),
+        Home::OutputChannel(index, n) => read_output(output_at(&store.flags, &store.values, n), index),
+        Home::Sources => read_sources(&store.octets),
+        Home::Device(index) => nodes::read(store.node(), index),
+        Home::MappingEntry(m, sub) => mappings::read(&store.deltas, m, sub),
     }
 }
 
@@ -114,96 +73,62 @@ fn take_sources(octets: &mut Octets, home: Home)
     }
 }
 
-pub fn write(
-    octets: &mut Octets,
-    flags: &mut Flags,
-    words: &mut Words,
-    limits: &mut Limits,
-    deltas: &mut Deltas,
-    values: &mut Values,
-    index: u16,
-    sub: u8,
-    bytes: &[u8],
-) -> u32
-    ensures { Ensured
-        (held octets.old flags.old words.old limits.old deltas.old
-        values.old)
-        (direct (Plain.write index sub bytes.now)) (plain result)
-        (held octets.new flags.new words.new limits.new deltas.new
-        values.new) }
+pub fn write(store: &mut Store, index: u16, sub: u8, bytes: &[u8]) -> Result<(), Refusal>
+    ensures { Ensured store.old (direct (Plain.write index sub bytes.now)) (plain_answer result) store.new }
 {
-    lend(octets, flags, words, values);
-    lend_settings(limits, deltas);
-    let entry = find(index, sub);
-    let was = node_at(octets, flags);
-    let refused = access_refusal(is_stopped(was), entry, bytes.len());
-    if refused != 0 {
-        return refused;
+    if is_stopped(store.node()) {
+        return Err(Refusal::Stopped);
     }
+    let entry = find(index, sub)?;
+    check_access(entry, bytes.len())?;
     let value = number(bytes);
-    let forbidden = written_refusal(deltas, entry, value);
-    if forbidden != 0 {
-        return forbidden;
-    }
-    let home = entry.home;
-    after_write(octets, flags, words, limits, deltas, values, home, value);
-    0
+    check_written(&store.deltas, entry, value)?;
+    after_write(store, entry.home, value);
+    Ok(())
 }
 
 // A write's rows on its value: of any entry, then of a mapping.
-fn written_refusal(deltas: &Deltas, entry: Entry, value: u32) -> u32
+fn check_written(deltas: &Deltas, entry: Entry, value: u32) -> Result<(), Refusal>
     requires { Readable entry.home }
-    ensures { result ≡ first (value_checks entry value ++ held_by deltas.now entry.home value) }
+    ensures { number_answered result
+        ≡ first (value_checks (present entry) value ++ held_by deltas.now entry.home value) }
 {
-    let general = value_refusal(entry, value);
-    if general != 0 {
-        return general;
+    check_value(entry, value)?;
+    match entry.home {
+        Home::MappingEntry(m, sub) => mappings::check(deltas, m, sub, value),
+        _ => Ok(()),
     }
-    let home = entry.home;
-    if let Home::MappingEntry(m, sub) = home {
-        return mappings::refusal(deltas, m, sub, value);
-    }
-    0
 }
 
 // A write that is not refused, by where its entry lives.
-fn after_write(
-    octets: &mut Octets,
-    flags: &mut Flags,
-    words: &mut Words,
-    limits: &mut Limits,
-    deltas: &mut Deltas,
-    values: &mut Values,
-    home: Home,
-    value: u32,
-)
-    requires sized { Sized (held octets.old flags.old words.old limits.old deltas.old values.old) }
-    requires writable { Writable home value }
-    ensures { Stepped
-        (held octets.old flags.old words.old limits.old deltas.old
-        values.old)
-        (held octets.new flags.new words.new limits.new deltas.new values.new)
-        (wrote home value (parts_of
-        (held octets.old flags.old words.old limits.old deltas.old
-        values.old))) }
+fn after_write(store: &mut Store, home: Home, value: u32)
+    requires { Writable home value }
+    ensures { Stepped store.old store.new (wrote home value (parts_of store.old)) }
 {
-    let was = node_at(octets, flags);
+    let was = store.node();
     match home {
-        Home::Constant(_) => {}
         Home::Window(row, width, sub) => {
-            machines::write(words, row, width, sub, value, in_fault(was));
+            machines::write(&mut store.words, row, width, sub, value, in_fault(was));
         }
-        Home::InputChannel(index, n) => {
-            analogue_inputs::write_at(octets, limits, deltas, values, n, index, value);
-        }
-        Home::OutputChannel(index, n) => {
-            analogue_outputs::write_at(flags, values, n, index, value, in_fault(was));
-        }
-        Home::Sources => {}
-        Home::Device(index) => {
-            let next = written(was, index, value);
-            set_node(octets, flags, next);
-        }
-        Home::MappingEntry(m, sub) => mappings::write(deltas, m, sub, value),
+        Home::InputChannel(index, n) => analogue_inputs::write_at(
+            &mut store.octets,
+            &mut store.limits,
+            &mut store.deltas,
+            &store.values,
+            n,
+            index,
+            value,
+        ),
+        Home::OutputChannel(index, n) => analogue_outputs::write_at(
+            &mut store.flags,
+            &mut store.values,
+            n,
+            index,
+            value,
+            in_fault(was),
+        ),
+        Home::Device(index) => store.set_node(written(was, index, value)),
+        Home::MappingEntry(m, sub) => mappings::write(&mut store.deltas, m, sub, value),
+        Home::Constant(_) | Home::Sources => {}
     }
 }

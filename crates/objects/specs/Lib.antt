@@ -1,3 +1,0 @@
--- The reply that a read in place is.
--- Assumes nothing.
-pub mod View
