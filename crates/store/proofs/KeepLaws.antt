@@ -5,7 +5,8 @@ use mathlib.Core.Bool.{Bool, false, false≢true}
 use mathlib.Core.List.{List}
 use Prim.Native.Nat.{ℕ, ◌+◌, ◌≤◌, ◌<◌}
 use native.Mathlib.Omega.{arith}
-use lib.ListN.{length, get_or, set}
+use lib.ListN.{length, get_or}
+use Rattle.std.proofs.lemmas.Grind.{common_steps}
 use lib.IntN.{ℤ, pos}
 use Rattle.profile.specs.declared.State.{State}
 use Rattle.profile.specs.declared.State.TheVariants.{PreOperational, Operational, Stopped}
@@ -13,12 +14,12 @@ use Rattle.profile.specs.declared.Node.{Node}
 use Rattle.profile.specs.Bits.{bit_at}
 use Rattle.profile.specs.Calls.{Call, Reply}
 use Rattle.profile.specs.Outcome.{Outcome}
-use Rattle.channels.specs.View.{input_at, output_at, Outside}
+use Rattle.channels.specs.View.{input_at, output_at}
 use Rattle.profile.proofs.ListLaws.{list_from_cong}
 use Rattle.mappings.specs.View.{place_of, mapping_at}
-use Rattle.channels.proofs.StoreLaws.{outside_none, outside_set, sources_kept, three_first, three_second, three_third, three_other}
-use Rattle.channels.proofs.StoreLaws.{fourth_other, fourth_same}
-use Rattle.store.specs.View.{state_of, state_number, node_at, node_octets, node_flags, Store, machines_of, Normal}
+use Rattle.channels.proofs.StoreLaws.{sources_kept}
+use Rattle.store.specs.declared.Store.{Store}
+use Rattle.store.specs.View.{state_of, state_number, node_at, node_octets, node_flags, machines_of, Normal}
 use Rattle.store.specs.Promises.{elsewhere, Ensured}
 
 -- ---- what stays
@@ -82,50 +83,34 @@ state_back PreOperational = refl
 state_back Operational = refl
 state_back Stopped = refl
 
+pub node_octets_lem : (octets : List ℕ) (n : Node) (k : ℕ) → 3 ≤ k → k < 21 → get_or (node_octets octets n) k 0 ≡ get_or octets k 0
+node_octets_lem octets n k from to = grind (arith, common_steps)
+
+pub node_flags_lem : (flags : List Bool) (n : Node) (k : ℕ) → 4 ≤ k → get_or (node_flags flags n) k false ≡ get_or flags k false
+node_flags_lem flags n k from = grind (arith, common_steps)
+
 module _ (octets : List ℕ) (flags : List Bool) (n : Node) (lo : length octets ≡ 22) (lf : length flags ≡ 12) where
-  -- the octet of the length is stored past the three others, and the flag of 6423 past its three
-  octet_past : (k : ℕ) → (k ≡ 21 → ⊥) → get_or (node_octets octets n) k 0
-      ≡ get_or (set (set (set octets 0 n.number) 1 (state_number n.state)) 2 n.behaviour) k 0
-  octet_past = fourth_other octets 0 1 2 n.number (state_number n.state) n.behaviour 0 21 n.length
-
-  flag_past : (k : ℕ) → (k ≡ 3 → ⊥) → get_or (node_flags flags n) k false ≡ get_or
-      (set (set (set flags 0 n.internal) 1 n.lost) 2 n.digital) k false
-  flag_past = fourth_other flags 0 1 2 n.internal n.lost n.digital false 3 n.analogue
-
   state_stored : get_or (node_octets octets n) 1 0 ≡ state_number n.state
-  state_stored = octet_past 1 (λ e. omega (arith, e))
-      ∙ three_second octets 0 1 2 n.number (state_number n.state) n.behaviour 0 (λ e. omega (arith, e)) (omega (arith, lo))
-
-  pub node_octets_lem : (k : ℕ) → 3 ≤ k → k < 21 → get_or (node_octets octets n) k 0 ≡ get_or octets k 0
-  node_octets_lem k from to =
-      octet_past k (λ e. omega (arith, e))
-      ∙ three_other octets 0 1 2 n.number (state_number n.state) n.behaviour 0 k (λ e. omega (arith, e)) (λ e. omega (arith, e))
-      (λ e. omega (arith, e))
-
-  pub node_flags_lem : Outside 0 4 false flags (node_flags flags n)
-  node_flags_lem =
-      outside_set 3 _ (omega arith) (omega arith)
-      (outside_set 2 _ (omega arith) (omega arith)
-      (outside_set 1 _ (omega arith) (omega arith) (outside_set 0 _ (omega arith) (omega arith) outside_none)))
+  state_stored = grind (arith, common_steps)
 
   pub node_stored : node_at (node_octets octets n) (node_flags flags n) ≡ n
   node_stored =
+      let number : get_or (node_octets octets n) 0 0 ≡ n.number = grind (arith, common_steps) in
+      let internal : get_or (node_flags flags n) 0 false ≡ n.internal = grind (arith, common_steps) in
+      let lost : get_or (node_flags flags n) 1 false ≡ n.lost = grind (arith, common_steps) in
+      let behaviour : get_or (node_octets octets n) 2 0 ≡ n.behaviour = grind (arith, common_steps) in
+      let digital : get_or (node_flags flags n) 2 false ≡ n.digital = grind (arith, common_steps) in
+      let analogue : get_or (node_flags flags n) 3 false ≡ n.analogue = grind (arith, common_steps) in
+      let long : get_or (node_octets octets n) 21 0 ≡ n.length = grind (arith, common_steps) in
       λ t. record {
-        number = (octet_past 0 (λ e. omega (arith, e))
-            ∙ three_first octets 0 1 2 n.number (state_number n.state) n.behaviour 0 (λ e. omega (arith, e))
-            (λ e. omega (arith, e)) (omega (arith, lo))) t;
+        number = number t;
         state = (ap state_of state_stored ∙ state_back n.state) t;
-        internal = (flag_past 0 (λ e. omega (arith, e))
-            ∙ three_first flags 0 1 2 n.internal n.lost n.digital false (λ e. omega (arith, e)) (λ e. omega (arith, e))
-            (omega (arith, lf))) t;
-        lost = (flag_past 1 (λ e. omega (arith, e)) ∙ three_second flags 0 1 2 n.internal n.lost n.digital false
-            (λ e. omega (arith, e)) (omega (arith, lf))) t;
-        behaviour = (octet_past 2 (λ e. omega (arith, e))
-            ∙ three_third octets 0 1 2 n.number (state_number n.state) n.behaviour 0 (omega (arith, lo))) t;
-        digital = (flag_past 2 (λ e. omega (arith, e)) ∙ three_third flags 0 1 2 n.internal n.lost n.digital false
-            (omega (arith, lf))) t;
-        analogue = fourth_same flags 0 1 2 n.internal n.lost n.digital false 3 n.analogue (omega (arith, lf)) t;
-        length = fourth_same octets 0 1 2 n.number (state_number n.state) n.behaviour 0 21 n.length (omega (arith, lo)) t;
+        internal = internal t;
+        lost = lost t;
+        behaviour = behaviour t;
+        digital = digital t;
+        analogue = analogue t;
+        length = long t;
       }
 
   pub node_normal : state_number (state_of (get_or (node_octets octets n) 1 0)) ≡ get_or (node_octets octets n) 1 0

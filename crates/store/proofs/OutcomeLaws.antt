@@ -43,7 +43,8 @@ use Rattle.profile.proofs.NodesAgree.{known_of}
 use Rattle.profile.proofs.RefusalLaws.{none_holds, first_skip, first_stop, access_sound}
 use Rattle.profile.proofs.StepLaws.{Takes, refused_step, write_step, read_step, sample_step, command_step, raise_step, clear_step}
 use Rattle.profile.proofs.StepLaws.{drive_step}
-use Rattle.store.specs.View.{Parts, own_of, machines, Store, parts_of}
+use Rattle.store.specs.declared.Store.{Store}
+use Rattle.store.specs.View.{Parts, own_of, machines, parts_of}
 use Rattle.store.specs.Promises.{moved, wrote, has_read, held_by}
 use Rattle.store.proofs.MachineLaws.{by_kind, same_machine, sources_read, OutputsKept, MappingsKept}
 

@@ -1,6 +1,6 @@
 -- What the parts of a call make of the arrays, as steps of the machines.
 -- Assumes nothing.
-use mathlib.Core.Path.{◌≡◌, refl, ap, subst, ◌∙◌}
+use mathlib.Core.Path.{◌≡◌, refl, sym, ap, subst, ◌∙◌}
 use mathlib.Core.Bool.{Bool, true, false, cond, false≢true}
 use mathlib.Core.List.{List, [], ◌∷◌}
 use Prim.Native.Nat.{ℕ, ◌<◌}
@@ -26,9 +26,11 @@ use Rattle.channels.specs.View.{input_at, output_at, sources_of}
 use Rattle.analogue_inputs.specs.Promises.{InputStored}
 use Rattle.analogue_outputs.specs.Promises.{OutputStored}
 use Rattle.analogue_inputs.proofs.SourceLaws.{sources_taken}
-use Rattle.store.specs.View.{node_at, node_octets, node_flags, Store, parts_of, machines_of, held}
+use Rattle.store.specs.declared.Store.{Store}
+use Rattle.store.specs.View.{node_at, node_octets, node_flags, with_node, with_octets, parts_of, machines_of, Sized}
 use Rattle.mappings.specs.View.{mapping_at, MappingStored}
-use Rattle.store.specs.Promises.{FreshLeft, Stepped, Followed, moved, wrote, has_read, SourcesRead, ZeroedIf, MappingsReset}
+use Rattle.store.specs.Promises.{FreshLeft, Stepped, Entered, moved, wrote, has_read, SourcesRead}
+use Rattle.channels.specs.View.{Zeroed}
 use Rattle.channels.proofs.StoreLaws.{zeroed_both}
 use Rattle.mappings.proofs.ViewLaws.{emptied_all}
 use Rattle.store.proofs.MachineLaws.{fresh_machines_lem, node_moved, window_wrote, input_wrote, output_wrote, mapping_wrote}
@@ -47,7 +49,15 @@ abbrev fresh_flags : List Bool
 fresh_flags = false ∷ false ∷ true ∷ false ∷ true ∷ true ∷ true ∷ true ∷ true ∷ true ∷ true ∷ true ∷ []
 
 abbrev fresh_store : ℕ → List ℕ → Store
-fresh_store number words = held (fresh_octets number) fresh_flags words (replicate 32 (pos 0)) (replicate 120 0) (replicate 56 (pos 0))
+fresh_store number words =
+    record {
+      octets = fresh_octets number;
+      flags = fresh_flags;
+      words = words;
+      limits = replicate 32 (pos 0);
+      deltas = replicate 120 0;
+      values = replicate 56 (pos 0);
+    }
 
 fresh_input : (number : ℕ) (words : List ℕ) (i : ℕ) → i < 16 → (parts_of (fresh_store number words)).inputs i ≡ fresh_analogue_input
 unfolding bit_at
@@ -73,139 +83,120 @@ fresh_left number words f =
       normal = record { state = refl };
     }
 
--- ---- the mappings after a command
-
-module _ (deltas deltas' : List ℕ) where
-  reset_low : (reset : Bool) → MappingsReset reset deltas deltas' → (k : ℕ) → k < 48 → get_or deltas' k 0 ≡ get_or deltas k 0
-  reset_low true z k h = (z.emptied refl).deltas_kept.low k h
-  reset_low false z k h = ap (λ (d : List ℕ). get_or d k 0) (z.kept refl)
-
-  reset_mappings : (reset : Bool) → MappingsReset reset deltas deltas' → (i : ℕ) → i < 8
-      → mapping_at deltas' i ≡ cond reset empty_mapping (mapping_at deltas i)
-  reset_mappings true z i h = (z.emptied refl).mappings i h
-  reset_mappings false z i h = ap (λ (d : List ℕ). mapping_at d i) (z.kept refl)
-
--- as long as before
-pub still_long : {deltas between : List ℕ} (reset : Bool) {a b : ℕ} → ZeroedIf reset a b deltas between → length deltas ≡ 120
-    → length between ≡ 120
-still_long true z h = (z.zeroed refl).kept.len ∙ h
-still_long false z h = ap length (z.kept refl) ∙ h
-
--- both parts of them
-pub both_reset : {deltas between deltas' : List ℕ} (reset : Bool) → ZeroedIf reset 48 84 deltas between
-    → ZeroedIf reset 84 120 between deltas' → MappingsReset reset deltas deltas'
-both_reset reset p q =
-    record {
-      emptied = λ e. emptied_all (zeroed_both (omega arith) (omega arith) (p.zeroed e) (q.zeroed e));
-      kept = λ e. q.kept e ∙ p.kept e;
-    }
-
--- a call that is no command leaves them
-pub no_reset : (deltas : List ℕ) → MappingsReset false deltas deltas
-no_reset deltas = record { emptied = λ e. absurd (false≢true e); kept = λ e. refl }
-
-module _ (octets : List ℕ) (flags : List Bool) (words : List ℕ) (limits : List ℤ) (deltas : List ℕ) (values : List ℤ) where
-  abbrev start : Store
-  start = held octets flags words limits deltas values
-
+module _ (d : Store) where
   -- ---- the node stored, and every output moved
 
-  module _ (n : Node) (lo : length octets ≡ 22) (lf : length flags ≡ 12) where
-    inputs_past : (deltas' : List ℕ) (values' : List ℤ) → ((k : ℕ) → k < 48 → get_or deltas' k 0 ≡ get_or deltas k 0)
-        → ((k : ℕ) → k < 32 → get_or values' k (pos 0) ≡ get_or values k (pos 0)) → (i : ℕ) → i < 16
-        → input_at (node_octets octets n) limits deltas' values' i ≡ input_at octets limits deltas values i
-    inputs_past deltas' values' d v =
-        inputs_kept octets (node_octets octets n) limits deltas deltas' values values'
-        (node_octets_lem octets flags n lo lf) d v
+  inputs_past : (n : Node) (deltas : List ℕ) (values : List ℤ) → ((k : ℕ) → k < 48 → get_or deltas k 0 ≡ get_or d.deltas k 0)
+      → ((k : ℕ) → k < 32 → get_or values k (pos 0) ≡ get_or d.values k (pos 0)) → (i : ℕ) → i < 16
+      → input_at (node_octets d.octets n) d.limits deltas values i ≡ input_at d.octets d.limits d.deltas d.values i
+  inputs_past n deltas values =
+      inputs_kept d.octets (node_octets d.octets n) d.limits d.deltas deltas d.values values (node_octets_lem d.octets n)
 
-    outputs_past : (i : ℕ) → i < 8 → output_at (node_flags flags n) values i ≡ output_at flags values i
-    outputs_past = outputs_kept flags (node_flags flags n) values values (λ k h. (node_flags_lem octets flags n lo lf).high k h) (λ k h. refl)
+  outputs_past : (n : Node) (i : ℕ) → i < 8 → output_at (node_flags d.flags n) d.values i ≡ output_at d.flags d.values i
+  outputs_past n = outputs_kept d.flags (node_flags d.flags n) d.values d.values (node_flags_lem d.flags n) (λ k h. refl)
 
-    -- the node n that the code has made is m, and the mappings are empty after a reset of communication
-    pub entered : (m : Node) → n ≡ m → (words' : List ℕ) (deltas' : List ℕ) (values' : List ℤ) (reset before after : Bool)
-        → MappingsReset reset deltas deltas' → before ≡ fault (node_at octets flags)
-        → after ≡ fault n → Followed before after (node_flags flags n) words words' values values'
-        → Stepped start (held (node_octets octets n) (node_flags flags n) words' limits deltas' values') (moved m reset (parts_of start))
-    entered m q words' deltas' values' reset before after z b a f =
-        let left = held (node_octets octets n) (node_flags flags n) words' limits deltas' values' in
-        let c = f.channels in
-        record {
-          machines =
-              subst (λ (x : Node). Same (machines_of left) (moved x reset (parts_of start))) q
-              (node_moved (parts_of start) (parts_of left) n reset before after b a (node_stored octets flags n lo lf) f.lines
-              (inputs_past deltas' values' (reset_low deltas deltas' reset z) c.values_kept.low)
-              (record { channels = λ i h. c.moved.channels i h ∙ ap (move_analogue_output before after) (outputs_past i h) })
-              (reset_mappings deltas deltas' reset z));
-          normal = λ old. record { state = node_normal octets flags n lo lf };
-        }
+  -- the mappings stayed or became empty, some of them before the node was stored
+  entered_by : {n : Node} {left : Store} (between deltas : List ℕ) (reset : Bool)
+      → ((k : ℕ) → k < 48 → get_or deltas k 0 ≡ get_or d.deltas k 0)
+      → ((i : ℕ) → i < 8 → mapping_at deltas i ≡ cond reset empty_mapping (mapping_at d.deltas i))
+      → Entered n (record d { deltas = between }) left → Stepped d (record left { deltas = deltas }) (moved n reset (parts_of d))
+  entered_by {n} {left} between deltas reset low ms e =
+      let r = record (with_node n d) { words = left.words; deltas = deltas; values = left.values } in
+      let c = e.followed.channels in
+      let P : Store → Type 0 = λ x. Stepped d x (moved n reset (parts_of d)) in
+      subst P (sym (ap (λ (x : Store). record x { deltas = deltas }) e.stored))
+      (record {
+        machines =
+            node_moved (parts_of d) (parts_of r) n reset _ _ refl refl (node_stored d.octets d.flags n e.sized.octets e.sized.flags)
+            e.followed.lines (inputs_past n deltas left.values low c.values_kept.low)
+            (record { channels = λ i h. c.moved.channels i h ∙ ap (move_analogue_output _ _) (outputs_past n i h) }) ms;
+        normal = λ old. record { state = node_normal d.octets d.flags n e.sized.octets e.sized.flags };
+      })
 
-    pub setting_stepped : (index v : ℕ) → n ≡ write_node (home.Device index) v (node_at octets flags)
-        → Stepped start (held (node_octets octets n) (node_flags flags n) words limits deltas values)
-        (wrote (home.Device index) v (parts_of start))
-    setting_stepped index v is =
-        record {
-          machines =
-              setting_wrote (parts_of start) (parts_of (held (node_octets octets n) (node_flags flags n) words limits deltas values)) index v
-              (node_stored octets flags n lo lf ∙ is) refl (inputs_past deltas values (λ k h. refl) (λ k h. refl)) outputs_past
-              (λ i h. refl);
-          normal = λ old. record { state = node_normal octets flags n lo lf };
-        }
+  pub entered : {n : Node} {left : Store} → Entered n d left → Stepped d left (moved n false (parts_of d))
+  entered {n} {left} e =
+      subst (λ (x : List ℕ). Stepped d (record left { deltas = x }) (moved n false (parts_of d)))
+      (sym (ap (λ (x : Store). x.deltas) e.stored)) (entered_by d.deltas d.deltas false (λ k h. refl) (λ i h. refl) e)
+
+  -- every mapping became empty, some of them after it
+  pub entered_reset : {n : Node} {left : Store} {between deltas : List ℕ} → Zeroed 48 84 d.deltas between
+      → Entered n (record d { deltas = between }) left → Zeroed 84 120 left.deltas deltas
+      → Stepped d (record left { deltas = deltas }) (moved n true (parts_of d))
+  entered_reset {n} {left} {between} {deltas} p e q =
+      let m = emptied_all (zeroed_both (omega arith) (omega arith) p (rw (ap (λ (x : Store). x.deltas) e.stored) at q)) in
+      entered_by between deltas true m.deltas_kept.low m.mappings e
+
+  -- ---- the node written
+
+  pub setting_stepped : (n : Node) (index v : ℕ) → Sized d → n ≡ write_node (home.Device index) v (node_at d.octets d.flags)
+      → Stepped d (with_node n d) (wrote (home.Device index) v (parts_of d))
+  setting_stepped n index v s is =
+      record {
+        machines =
+            setting_wrote (parts_of d) (parts_of (with_node n d)) index v
+            (node_stored d.octets d.flags n s.octets s.flags ∙ is) refl
+            (inputs_past n d.deltas d.values (λ k h. refl) (λ k h. refl)) (outputs_past n) (λ i h. refl);
+        normal = λ old. record { state = node_normal d.octets d.flags n s.octets s.flags };
+      }
 
   -- ---- a write to a window, an input or an output
 
-  pub window_stepped : (words' : List ℕ) (row w s v : ℕ) → line.Written (fault (node_at octets flags)) words row w s v words'
-      → Stepped start (held octets flags words' limits deltas values) (wrote (Window row w s) v (parts_of start))
-  window_stepped words' row w s v l =
+  pub window_stepped : (words : List ℕ) (row w s v : ℕ) → line.Written (fault (node_at d.octets d.flags)) d.words row w s v words
+      → Stepped d (record d { words = words }) (wrote (Window row w s) v (parts_of d))
+  window_stepped words row w s v l =
+      let r = record d { words = words } in
       record {
-        machines =
-            window_wrote (parts_of start) (parts_of (held octets flags words' limits deltas values)) refl row w s v l (λ i h. refl)
-            (λ i h. refl) (λ i h. refl);
-        normal = same_state start (held octets flags words' limits deltas values) refl;
+        machines = window_wrote (parts_of d) (parts_of r) refl row w s v l (λ i h. refl) (λ i h. refl) (λ i h. refl);
+        normal = same_state d r refl;
       }
 
-  pub input_stepped : (octets' : List ℕ) (limits' : List ℤ) (deltas' : List ℕ) (index n v : ℕ)
-      → InputStored index n v (input_at octets limits deltas values) (input_at octets' limits' deltas' values) octets octets'
-      deltas deltas'
-      → Stepped start (held octets' flags words limits' deltas' values) (wrote (InputChannel index n) v (parts_of start))
-  input_stepped octets' limits' deltas' index n v s =
+  pub input_stepped : (octets : List ℕ) (limits : List ℤ) (deltas : List ℕ) (index n v : ℕ)
+      → InputStored index n v (input_at d.octets d.limits d.deltas d.values) (input_at octets limits deltas d.values) d.octets octets
+      d.deltas deltas
+      → Stepped d (record d { octets = octets; limits = limits; deltas = deltas }) (wrote (InputChannel index n) v (parts_of d))
+  input_stepped octets limits deltas index n v s =
+      let r = record d { octets = octets; limits = limits; deltas = deltas } in
       record {
         machines =
-            input_wrote (parts_of start) (parts_of (held octets' flags words limits' deltas' values))
-            (node_kept octets octets' flags flags s.octets_kept.low (s.octets_kept.high 21 (omega arith)) (λ k h. refl)) refl
-            index n v s.written (λ i h. refl)
-            (mappings_kept deltas deltas' s.deltas_kept.high);
-        normal = same_state start (held octets' flags words limits' deltas' values) (s.octets_kept.low 1 (omega arith));
+            input_wrote (parts_of d) (parts_of r)
+            (node_kept d.octets octets d.flags d.flags s.octets_kept.low (s.octets_kept.high 21 (omega arith)) (λ k h. refl)) refl
+            index n v s.written (λ i h. refl) (mappings_kept d.deltas deltas s.deltas_kept.high);
+        normal = same_state d r (s.octets_kept.low 1 (omega arith));
       }
 
-  pub output_stepped : (flags' : List Bool) (values' : List ℤ) (index n v : ℕ)
-      → OutputStored (fault (node_at octets flags)) index n v (output_at flags values) (output_at flags' values') flags flags' values values'
-      → Stepped start (held octets flags' words limits deltas values') (wrote (OutputChannel index n) v (parts_of start))
-  output_stepped flags' values' index n v s =
+  pub output_stepped : (flags : List Bool) (values : List ℤ) (index n v : ℕ)
+      → OutputStored (fault (node_at d.octets d.flags)) index n v (output_at d.flags d.values) (output_at flags values) d.flags flags
+      d.values values
+      → Stepped d (record d { flags = flags; values = values }) (wrote (OutputChannel index n) v (parts_of d))
+  output_stepped flags values index n v s =
+      let r = record d { flags = flags; values = values } in
       record {
         machines =
-            output_wrote (parts_of start) (parts_of (held octets flags' words limits deltas values'))
-            (node_kept octets octets flags flags' (λ k h. refl) refl (λ k h. s.flags_kept.low k h)) refl index n v s.written
-            (inputs_kept octets octets limits deltas deltas values values' (λ k h l. refl) (λ k h. refl) (λ k h. s.values_kept.low k h))
+            output_wrote (parts_of d) (parts_of r)
+            (node_kept d.octets d.octets d.flags flags (λ k h. refl) refl (λ k h. s.flags_kept.low k h)) refl index n v s.written
+            (inputs_kept d.octets d.octets d.limits d.deltas d.deltas d.values values (λ k h l. refl) (λ k h. refl)
+            (λ k h. s.values_kept.low k h))
             (λ i h. refl);
-        normal = same_state start (held octets flags' words limits deltas values') refl;
+        normal = same_state d r refl;
       }
 
-  pub mapping_stepped : (deltas' : List ℕ) (m sub v : ℕ) → MappingStored m sub v deltas deltas'
-      → Stepped start (held octets flags words limits deltas' values) (wrote (MappingEntry m sub) v (parts_of start))
-  mapping_stepped deltas' m sub v s =
+  pub mapping_stepped : (deltas : List ℕ) (m sub v : ℕ) → MappingStored m sub v d.deltas deltas
+      → Stepped d (record d { deltas = deltas }) (wrote (MappingEntry m sub) v (parts_of d))
+  mapping_stepped deltas m sub v s =
+      let r = record d { deltas = deltas } in
       record {
         machines =
-            mapping_wrote (parts_of start) (parts_of (held octets flags words limits deltas' values)) refl refl m sub v
-            (inputs_kept octets octets limits deltas deltas' values values (λ k h l. refl) s.deltas_kept.low (λ k h. refl))
+            mapping_wrote (parts_of d) (parts_of r) refl refl m sub v
+            (inputs_kept d.octets d.octets d.limits d.deltas deltas d.values d.values (λ k h l. refl) s.deltas_kept.low (λ k h. refl))
             (λ i h. refl) s.mappings;
-        normal = same_state start (held octets flags words limits deltas' values) refl;
+        normal = same_state d r refl;
       }
 
   -- ---- a read
 
   -- the value read of 6422:1 are the source bits
-  sources_in : (e : Home) (v : ℕ) → v ≡ read_value (machines_of start) e → reads_sources e ≡ true
-      → v ≡ gather 16 (bit_at (sources_of octets))
+  sources_in : (e : Home) (v : ℕ) → v ≡ read_value (machines_of d) e → reads_sources e ≡ true
+      → v ≡ gather 16 (bit_at (sources_of d.octets))
   unfolding read_value
   sources_in (Constant x) v q h = absurd (false≢true h)
   sources_in (Window row w s) v q h = absurd (false≢true h)
@@ -215,28 +206,24 @@ module _ (octets : List ℕ) (flags : List Bool) (words : List ℕ) (limits : Li
   sources_in (home.Device index) v q h = absurd (false≢true h)
   sources_in (MappingEntry m sub) v q h = absurd (false≢true h)
 
-  module _ (octets' : List ℕ) (e : Home) (v : ℕ) (ev : v ≡ read_value (machines_of start) e) (s : SourcesRead e octets octets') where
-    abbrev read_left : Store
-    read_left = held octets' flags words limits deltas values
-
-    read_by : (b : Bool) → reads_sources e ≡ b → Stepped start read_left (has_read e (parts_of start))
+  module _ (octets : List ℕ) (e : Home) (v : ℕ) (ev : v ≡ read_value (machines_of d) e) (s : SourcesRead e d.octets octets) where
+    read_by : (b : Bool) → reads_sources e ≡ b → Stepped d (with_octets octets d) (has_read e (parts_of d))
     read_by true h =
         let c = s.cleared h in
         record {
           machines =
-              read_cleared (parts_of start) (parts_of read_left) e
-              (node_kept octets octets' flags flags (λ k l. c.octets_kept.low k (omega (arith, l)))
+              read_cleared (parts_of d) (parts_of (with_octets octets d)) e
+              (node_kept d.octets octets d.flags d.flags (λ k l. c.octets_kept.low k (omega (arith, l)))
               (c.octets_kept.high 21 (omega arith)) (λ k l. refl)) refl (λ k l. refl)
               (λ k l. refl) h v
-              (sources_taken octets octets' limits deltas values values v (sources_in e v ev h) c);
-          normal = same_state start read_left (c.octets_kept.low 1 (omega arith));
+              (sources_taken d.octets octets d.limits d.deltas d.values d.values v (sources_in e v ev h) c);
+          normal = same_state d (with_octets octets d) (c.octets_kept.low 1 (omega arith));
         }
     read_by false h =
         record {
-          machines = rw (s.kept h) (read_same (parts_of start) e h);
-          normal = same_state start read_left
-              (ap (λ (o : List ℕ). get_or o 1 0) (s.kept h));
+          machines = rw (s.kept h) (read_same (parts_of d) e h);
+          normal = same_state d (with_octets octets d) (ap (λ (o : List ℕ). get_or o 1 0) (s.kept h));
         }
 
-    pub read_stepped : Stepped start read_left (has_read e (parts_of start))
+    pub read_stepped : Stepped d (with_octets octets d) (has_read e (parts_of d))
     read_stepped = read_by (reads_sources e) refl

@@ -8,11 +8,11 @@ use Rattle.profile.specs.declared.Home.TheVariants as home
 use Rattle.profile.specs.AnalogueInput.{input_size}
 use Rattle.windows.specs.Promises.{Covers}
 use Rattle.lines.specs.Promises.{Moved}
-use Rattle.channels.specs.View.{output_at, Zeroed}
+use Rattle.channels.specs.View.{output_at}
 use Rattle.analogue_inputs.specs.Promises.{SourcesStored}
 use Rattle.analogue_outputs.specs.Promises.{OutputsMoved}
 use Rattle.analogue_outputs.specs.Writable as channel
-use Rattle.mappings.specs.View.{mapping_at, MappingsEmptied}
+use Rattle.mappings.specs.View.{mapping_at}
 use Rattle.profile.specs.Nodes.{fault, addressed}
 use Rattle.profile.specs.Refusals.{Check, mapping_checks, create_refusal, created_number}
 use Rattle.profile.specs.Machines.{entry_names, write_own, clear_own, empty_own, move_own}
@@ -22,7 +22,8 @@ use Rattle.profile.specs.Heard.{Machines, fresh_machines}
 use Rattle.profile.specs.Outcome.{Same, Outcome}
 use Rattle.profile.specs.Calls.{Plain, read, write, sample, command, raise, clear, drive}
 use Rattle.profile.specs.Calls.{Call, direct, receive, transmit, request, Reply}
-use Rattle.store.specs.View.{node_at, Parts, own_of, machines, Store, machines_of, held, Normal}
+use Rattle.store.specs.declared.Store.{Store}
+use Rattle.store.specs.View.{node_at, node_flags, with_node, Parts, own_of, machines, machines_of, Sized, Normal}
 
 -- the promise of create: the number, and a fresh device with the node number, or with 127
 pub record FreshAs (number : ℕ) (r : ℕ) (left : Store) : Type 0 where
@@ -53,17 +54,6 @@ pub record Ensured (before : Store) (c : Call) (r : Reply) (left : Store) : Type
   pub untouched : (r.number ≡ 0 → ⊥) → left ≡ before
   pub passed_by : elsewhere (node_at before.octets before.flags) c ≡ true → left ≡ before
   pub normal : Normal before → Normal left
-
--- the same of a call that is not lent the limits and the deltas: whatever they are, they stay
-pub record EnsuredBeside (octets : List ℕ) (flags : List Bool) (words : List ℕ) (values : List ℤ) (c : Call) (r : Reply)
-    (octets' : List ℕ) (flags' : List Bool) (words' : List ℕ) (values' : List ℤ) : Type 0 where
-  pub whole : (limits : List ℤ) (deltas : List ℕ)
-      → Ensured (held octets flags words limits deltas values) c r (held octets' flags' words' limits deltas values')
-
--- the same of drive, which is lent the words and the values alone, and only to be read
-pub record EnsuredOf (words : List ℕ) (values : List ℤ) (c : Call) (r : Reply) : Type 0 where
-  pub whole : (octets : List ℕ) (flags : List Bool) (limits : List ℤ) (deltas : List ℕ)
-      → Ensured (held octets flags words limits deltas values) c r (held octets flags words limits deltas values)
 
 -- every array is fresh, with a node number
 pub record FreshLeft (number : ℕ) (left : Store) : Type 0 where
@@ -120,17 +110,14 @@ pub record Followed (before after : Bool) (flags : List Bool) (words words' : Li
   pub lines : Moved before after words words'
   pub channels : OutputsMoved before after (output_at flags values) (output_at flags values') values values'
 
+-- the node n was stored, and the outputs have moved as it tells
+pub record Entered (n : Node) (before left : Store) : Type 0 where
+  pub stored : left ≡ record (with_node n before) { words = left.words; values = left.values }
+  pub followed : Followed (fault (node_at before.octets before.flags)) (fault n) (node_flags before.flags n) before.words left.words
+      before.values left.values
+  pub sized : Sized before
+
 -- an accepted read of 6422:1 clears the source bits, any other read leaves them
 pub record SourcesRead (e : Home) (octets octets' : List ℕ) : Type 0 where
   pub cleared : reads_sources e ≡ true → SourcesStored 0 octets octets'
   pub kept : reads_sources e ≡ false → octets' ≡ octets
-
--- a run of the array became 0, or, after any other command, the array stays
-pub record ZeroedIf (reset : Bool) (a b : ℕ) (deltas deltas' : List ℕ) : Type 0 where
-  pub zeroed : reset ≡ true → Zeroed a b deltas deltas'
-  pub kept : reset ≡ false → deltas' ≡ deltas
-
--- reset communication empties the mappings, any other command leaves the array
-pub record MappingsReset (reset : Bool) (deltas deltas' : List ℕ) : Type 0 where
-  pub emptied : reset ≡ true → MappingsEmptied deltas deltas'
-  pub kept : reset ≡ false → deltas' ≡ deltas

@@ -14,6 +14,7 @@ use Rattle.profile.specs.Heard.{Machines}
 use Rattle.lines.specs.View as line
 use Rattle.channels.specs.View.{input_at, output_at}
 use Rattle.mappings.specs.View.{mapping_at}
+use Rattle.store.specs.declared.Store.{Store}
 
 -- ---- the node
 
@@ -46,6 +47,16 @@ node_octets octets n = set (set (set (set octets 0 n.number) 1 (state_number n.s
 abbrev pub node_flags : List Bool → Node → List Bool
 node_flags flags n = set (set (set (set flags 0 n.internal) 1 n.lost) 2 n.digital) 3 n.analogue
 
+-- with another node, with other octets, and as a sample leaves it
+abbrev pub with_node : Node → Store → Store
+with_node n d = record d { octets = node_octets d.octets n; flags = node_flags d.flags n }
+
+abbrev pub with_octets : List ℕ → Store → Store
+with_octets octets d = record d { octets = octets }
+
+abbrev pub with_sampled : List ℕ → List ℕ → List ℤ → Store → Store
+with_sampled octets words values d = record d { octets = octets; words = words; values = values }
+
 -- ---- the device
 
 -- what the arrays hold
@@ -68,15 +79,6 @@ own_of d mapping i = d.mappings i
 -- each machine, with the node for its own
 abbrev pub machines : Parts → Machines
 machines d k i = record { node = d.node; own = own_of d k i }
-
--- the six arrays, by element type
-pub record Store : Type 0 where
-  pub octets : List ℕ
-  pub flags : List Bool
-  pub words : List ℕ
-  pub limits : List ℤ
-  pub deltas : List ℕ
-  pub values : List ℤ
 
 abbrev pub parts_of : Store → Parts
 parts_of d =

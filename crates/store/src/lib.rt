@@ -1,8 +1,8 @@
-// The six arrays of a device: the node that they hold, and fresh arrays. What the calls in place promise of them is in specs/.
+// The six arrays of a device as one struct: the node that they hold, and fresh arrays. What the calls in place promise of them is in specs/.
 #![tactic(auto)]
 
 ghost use Rattle.std.specs.Prelude.{◌≡◌};
-ghost use Rattle.store.specs.View.{state_of, state_number, node_at, node_octets, node_flags, held};
+ghost use Rattle.store.specs.View.{state_of, node_at, with_node, Sized};
 ghost use Rattle.store.specs.Promises.{FreshLeft};
 
 use channels::fields::{
@@ -34,97 +34,74 @@ const DIGITAL: usize = 2;
 
 const ANALOGUE: usize = 3;
 
-// It does nothing. Where an array is lent as a slice, the proof learns its length.
-pub fn lend(octets: &[u8], flags: &[bool], words: &[u64], values: &[i16]) {}
+// The arrays that the device lends, by element type.
+#[repr(C)]
+#[derive(Clone, Copy)]
+pub struct Store {
+    pub octets: Octets,
+    pub flags: Flags,
+    pub words: Words,
+    pub limits: Limits,
+    pub deltas: Deltas,
+    pub values: Values,
+}
 
-// The same for the two arrays that only a write and a command change.
-pub fn lend_settings(limits: &[i32], deltas: &[u32]) {}
+impl Store {
+    pub fn node(&self) -> Node
+        ensures { result ≡ node_at self.now.octets self.now.flags }
+    {
+        Node {
+            number: self.octets[NUMBER],
+            state: state_of(self.octets[STATE]),
+            internal: self.flags[INTERNAL],
+            lost: self.flags[LOST],
+            behaviour: self.octets[BEHAVIOUR],
+            digital: self.flags[DIGITAL],
+            analogue: self.flags[ANALOGUE],
+            length: self.octets[LENGTH],
+        }
+    }
+
+    pub fn set_node(&mut self, new: Node)
+        ensures stored { self.new ≡ with_node new self.old }
+        ensures sized { Sized self.old }
+    {
+        self.octets[NUMBER] = new.number;
+        self.octets[STATE] = new.state as u8;
+        self.octets[BEHAVIOUR] = new.behaviour;
+        self.octets[LENGTH] = new.length;
+        self.flags[INTERNAL] = new.internal;
+        self.flags[LOST] = new.lost;
+        self.flags[DIGITAL] = new.digital;
+        self.flags[ANALOGUE] = new.analogue;
+    }
+
+    // Every object at its default: the zeros in parts with other stores between, since one fill of more than 256 bytes would call memset.
+    pub fn set_fresh(&mut self, number: u8)
+        ensures { FreshLeft number self.new }
+    {
+        // Every selection is 7.
+        self.octets = [7; OCTETS];
+        set_sources(&mut self.octets, 0);
+        self.flags = [false; FLAGS];
+        self.set_node(fresh(number));
+        zero_deltas(&mut self.deltas, 0, MAPPINGS);
+        set_modes(&mut self.flags);
+        empty_received(&mut self.deltas);
+        self.limits = [0; LIMITS];
+        self.values = [0; VALUES];
+        machines::fresh(&mut self.words);
+        empty_transmitted(&mut self.deltas);
+    }
+}
 
 // A number that no state has counts as stopped.
 fn state_of(number: u8) -> State
     ensures { result ≡ state_of number }
 {
-    if number == 127 {
-        return State::PreOperational;
+    match number {
+        127 => State::PreOperational,
+        5 => State::Operational,
+        _ => State::Stopped,
     }
-    if number == 5 {
-        return State::Operational;
-    }
-    State::Stopped
-}
-
-// As a heartbeat gives it.
-fn state_number(state: State) -> u8
-    ensures { result ≡ state_number state }
-{
-    match state {
-        State::PreOperational => 127,
-        State::Operational => 5,
-        State::Stopped => 4,
-    }
-}
-
-pub fn node_at(octets: &Octets, flags: &Flags) -> Node
-    ensures { result ≡ node_at octets.now flags.now }
-{
-    let number = octets[STATE];
-    let state = state_of(number);
-    Node {
-        number: octets[NUMBER],
-        state,
-        internal: flags[INTERNAL],
-        lost: flags[LOST],
-        behaviour: octets[BEHAVIOUR],
-        digital: flags[DIGITAL],
-        analogue: flags[ANALOGUE],
-        length: octets[LENGTH],
-    }
-}
-
-pub fn set_node(octets: &mut Octets, flags: &mut Flags, new: Node)
-    ensures { (octets.new ≡ node_octets octets.old new) ×
-        (flags.new ≡ node_flags flags.old new) }
-{
-    let state = new.state;
-    let number = state_number(state);
-    octets[NUMBER] = new.number;
-    octets[STATE] = number;
-    octets[BEHAVIOUR] = new.behaviour;
-    octets[LENGTH] = new.length;
-    flags[INTERNAL] = new.internal;
-    flags[LOST] = new.lost;
-    flags[DIGITAL] = new.digital;
-    flags[ANALOGUE] = new.analogue;
-}
-
-// Every object at its default.
-pub fn set_fresh(
-    octets: &mut Octets,
-    flags: &mut Flags,
-    words: &mut Words,
-    limits: &mut Limits,
-    deltas: &mut Deltas,
-    values: &mut Values,
-    number: u8,
-)
-    ensures { FreshLeft number
-        (held octets.new flags.new words.new limits.new deltas.new
-        values.new) }
-{
-    // Every selection is 7.
-    *octets = [7; OCTETS];
-    set_sources(octets, 0);
-    *flags = [false; FLAGS];
-    let node = fresh(number);
-    set_node(octets, flags, node);
-    set_modes(flags);
-    lend(octets, flags, words, values);
-    machines::fresh(words);
-    // The deltas in three parts with other stores between them: one fill of more than 256 bytes is compiled to a call of memset.
-    lend_settings(limits, deltas);
-    zero_deltas(deltas, 0, MAPPINGS);
-    *limits = [0; LIMITS];
-    empty_received(deltas);
-    *values = [0; VALUES];
-    empty_transmitted(deltas);
 }
