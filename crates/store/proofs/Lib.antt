@@ -5,3 +5,4 @@ pub mod OutcomeLaws
 pub mod KeepLaws
 pub mod StepLaws
 pub mod EntryLaws
+pub mod CallLaws
