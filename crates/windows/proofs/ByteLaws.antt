@@ -30,6 +30,7 @@ powers (suc j) =
     let next : 8 * suc j ≡ 8 * j + 8 = omega arith in
     rw (pow-suc 256 j, powers j, next, pow-add 2 (8 * j) 8) refl
 
+-- a byte of a number, by its place and by its bits
 byte_place : (n j : ℕ) → byte_at j n ≡ n / 2 ^ (8 * j) % 256
 byte_place n zero = ap (λ (x : ℕ). x % 256) (sym (div-one n))
 byte_place n (suc j) = ap (λ (p : ℕ). n / p % 256) (powers (suc j))

@@ -59,7 +59,11 @@ mux false a b = ap₂ ◌||◌ (and-true b) (and-false a) ∙ or-false b
 pub row_pick : {c a b else kept taken r : Row} → Inverts c else → Joins ◌&&◌ b else kept → Joins ◌&&◌ a c taken
     → Joins ◌||◌ kept taken r → Picks c a b r
 row_pick {c} {a} {b} e k t r =
-    record { at = λ i. r.at i ∙ ap₂ ◌||◌ (k.at i ∙ ap (λ (x : Bool). row_at b i && x) (e.at i)) (t.at i) ∙ mux (row_at c i) (row_at a i) (row_at b i) }
+    record {
+      at = λ i.
+          r.at i ∙ ap₂ ◌||◌ (k.at i ∙ ap (λ (x : Bool). row_at b i && x) (e.at i)) (t.at i)
+          ∙ mux (row_at c i) (row_at a i) (row_at b i);
+    }
 
 -- a bit of one word or of another, as a bit of a third decides
 abbrev pub pick_word : ℕ → ℕ → ℕ → ℕ → ℕ
