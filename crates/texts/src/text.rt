@@ -1,4 +1,5 @@
 // Bytes put into a lent buffer from a position on; each function answers the position after them. What does not fit is left out.
+// None of it goes by Display: each promise names every byte, and what `fmt` writes no proof can use.
 ghost use Rattle.std.specs.Prelude.{◌≡◌, List, [], ◌∷◌, ℕ, ◌<◌};
 ghost use Rattle.std.specs.Int.{w16};
 ghost use Rattle.std.proofs.Common.{of_z};
