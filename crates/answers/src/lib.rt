@@ -14,7 +14,7 @@ use texts::text::{
     put, put_all, put_bytes, put_decimal, put_each_word, put_long_hex, put_numbers, put_places,
 };
 use words::Expected;
-use words::items::first_bytes;
+use words::items::first_items;
 
 // The tables of words.
 pub mod tables;
@@ -59,7 +59,7 @@ pub fn put_read(
         (value / 16_777_216) as u8,
     ];
     let next = put_all(out, at, b"0 =");
-    let last = put_bytes(out, next, first_bytes(&bytes, size));
+    let last = put_bytes(out, next, first_items(&bytes, size));
     end_access(out, last, index, sub)
 }
 

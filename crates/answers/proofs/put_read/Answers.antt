@@ -12,5 +12,5 @@ returns-then-number-ne0 c = rw (ne_eqb c.args.number 0 c.if-number-ne0.true) c.p
 pub returns : goal.returns
 unfolding read_line
 returns c =
-    rw (eq-eqb c.args.number 0 c.if-number-ne0.false, ← c.first_bytes.ensures)
+    rw (eq-eqb c.args.number 0 c.if-number-ne0.false, ← c.first_items.ensures)
     (put_then (put_then c.put_all-next.ensures c.put_bytes-last.ensures) c.end_access.ensures)
