@@ -19,7 +19,7 @@ use texts::text::{
     put, put_all, put_bytes, put_decimal, put_each_word, put_long_hex, put_numbers, put_places,
 };
 use words::Expected;
-use words::items::first_bytes;
+use words::items::first_items;
 
 // The tables of words.
 pub mod tables;
@@ -69,7 +69,7 @@ pub fn put_read(
     match answer {
         Ok(read) => {
             let next = put_all(out, at, b"0 =");
-            let last = put_bytes(out, next, first_bytes(&read.value.to_le_bytes(), read.size));
+            let last = put_bytes(out, next, first_items(&read.value.to_le_bytes(), read.size));
             end_access(out, last, index, sub)
         }
         Err(refusal) => put_plain(out, at, Err(refusal)),

@@ -18,6 +18,6 @@ returns-in-Ok c =
     let line = λ (a : Result ReadValue Refusal).
         read_line (read_answer a).number (read_answer a).value (read_answer a).size c.args.index c.args.sub in
     put_as (ap line c.in-Ok.is
-    ∙ read_accepted v c.args.index c.args.sub c.first_bytes.result.now
-    (c.first_bytes.ensures ∙ ap (take v.size) (c.to_le_bytes.ensures ∙ four_bytes_are v.value (omega arith))))
+    ∙ read_accepted v c.args.index c.args.sub c.first_items.result.now
+    (c.first_items.ensures ∙ ap (take v.size) (c.to_le_bytes.ensures ∙ four_bytes_are v.value (omega arith))))
     (put_then (put_then c.put_all-next.ensures c.put_bytes-last.ensures) c.end_access.ensures)
