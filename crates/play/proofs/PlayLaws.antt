@@ -1,6 +1,6 @@
 -- A call that was counted and answered was played.
 -- Assumes nothing.
-use Rattle.std.proofs.Common.{◌≡◌, ℕ, ◌+◌, ◌≤◌, Bool, not, eqb, List, [], ◌∷◌, ◌++◌, length, take, ℤ, sym, refl, ap, ◌∙◌, subst, add-zero, arith}
+use Rattle.std.proofs.Common.{◌≡◌, ℕ, ◌+◌, ◌≤◌, Bool, not, eqb, List, [], ◌∷◌, ◌++◌, length, take, ℤ, sym, refl, ap, ◌∙◌, subst, add-zero, arith, Result, Ok, Err}
 use lib.Seq.{sets}
 use Rattle.profile.specs.declared.Message.{Message}
 use Rattle.profile.specs.Calls.{Call, receive, transmit, request, Reply}
@@ -9,13 +9,17 @@ use Rattle.profile.specs.Heard.{Machines, fresh_machines, step_all}
 use Rattle.profile.specs.Replies.{reply}
 use Rattle.profile.specs.Outcome.{Same}
 use Rattle.device.specs.declared.Device.{Device}
-use Rattle.device.specs.declared.Created.{Created}
+use Rattle.profile.specs.declared.refusals.Refusal.{Refusal}
+use Rattle.profile.specs.declared.ReadValue.{ReadValue}
+use Rattle.profile.specs.Numbers.{number_answered}
+use Rattle.profile.specs.Answers.{plain_answer, read_answer, sample_answer, drive_answer, buffer_answer}
 use Rattle.device.specs.View.{machines_of}
 use Rattle.device.specs.Promises.{CreatedAs, Ensured}
 use Rattle.texts.specs.Texts.{Put}
 use Rattle.answers.specs.Answers.{plain_line, receive_line, frame_line}
 use Rattle.frame_answers.specs.FrameAnswers.{reply_line}
-use Rattle.notation.specs.declared.Call.{Call as Said}
+use Rattle.notation.specs.declared.Call.{Call as Asked}
+use Rattle.words.specs.declared.Expected.{Expected}
 use Rattle.answers.proofs.LengthLaws.{plain_short, receive_short, frame_short}
 use Rattle.frame_answers.proofs.FrameLengths.{reply_short}
 use Rattle.notation.specs.Meanings.{Meaning}
@@ -33,6 +37,10 @@ front_is {A = A} n left rest e = ap (λ k. take k (left ++ rest)) (sym e) ∙ at
     at [] = refl
     at (x ∷ l) = ap (λ (m : List A). x ∷ m) (at l)
 
+-- the reader's answer
+abbrev Said : Type 0
+Said = Result Asked Expected
+
 -- a line means what the reader's answer says
 pub as_meant : {before after : Session} {out left : List ℕ} {payload bytes : List ℕ} {numbers : List ℤ} {events : List ℕ} (m : Meaning)
     (r s : Said) → Says m r payload bytes numbers events → r ≡ s →
@@ -44,6 +52,37 @@ as_meant {before} {after} {out} {left} {payload} {bytes} {numbers} {events} m r 
 pub fits_as : (m : Meaning) (r s : Said) {payload bytes : List ℕ} {numbers : List ℤ} {events : List ℕ}
     → Says m r payload bytes numbers events → r ≡ s → Fitting s
 fits_as m r s w e = subst (λ (x : Said). Fitting x) e w.fits
+
+-- the number of a call's answer is that of its reply
+pub read_number : (a : Result ReadValue Refusal) → number_answered a ≡ (read_answer a).number
+read_number (Ok v) = refl
+read_number (Err r) = refl
+
+pub sample_number : (a : Result ℕ Refusal) (bytes : List ℕ) → number_answered a ≡ (sample_answer a bytes).number
+sample_number (Ok events) bytes = refl
+sample_number (Err r) bytes = refl
+
+pub drive_number : (a : Result (Unit {0}) Refusal) (lines : List ℕ) (channels : List ℤ)
+    → number_answered a ≡ (drive_answer a lines channels).number
+drive_number (Ok v) lines channels = refl
+drive_number (Err r) lines channels = refl
+
+pub buffer_number : (a : Result ℕ Refusal) (bytes : List ℕ) → number_answered a ≡ (buffer_answer a bytes).number
+buffer_number (Ok count) bytes = refl
+buffer_number (Err r) bytes = refl
+
+pub buffer_bytes : (a : Result ℕ Refusal) (bytes : List ℕ) → bytes ≡ (buffer_answer a bytes).bytes
+buffer_bytes (Ok count) bytes = refl
+buffer_bytes (Err r) bytes = refl
+
+pub drive_buffers : (a : Result (Unit {0}) Refusal) (lines : List ℕ) (channels : List ℤ)
+    → (lines ≡ (drive_answer a lines channels).bytes) × (channels ≡ (drive_answer a lines channels).numbers)
+drive_buffers (Ok v) lines channels = (refl, refl)
+drive_buffers (Err r) lines channels = (refl, refl)
+
+pub counted_as : {A : Type 0} (a : Result A Refusal) {n : ℕ} {before after : Session} {d : Device} {place : ℕ} → number_answered a ≡ n
+    → Counted before d (number_answered a) place after → Counted before d n place after
+counted_as a {n} {before} {after} {d} {place} e k = subst (λ (x : ℕ). Counted before d x place after) e k
 
 pub same_aside : (s : Session) → Aside s s
 same_aside s = record { lines = refl; length = refl; answer = refl; met = refl; unmet = refl; progress = refl }
@@ -126,12 +165,12 @@ module _ (before : Session) (out left : List ℕ) (after : Session) where
         (subst (λ (m : List ℕ). Put (reply_line r.number m r.count stopped) out before.at left place) e p))
         (reply_short r.number r.bytes r.count (is_stopped was) h) l
 
-  pub created : (node : ℕ) (made : Created) (place : ℕ) → CreatedAs node made → Counted before made.device made.number place after →
-      Put (plain_line made.number) out before.at left place → length out ≡ 8192 → Played before (create node) out after left
-  created node made place o k p l =
+  pub created : (node : ℕ) (answer : Result (Unit {0}) Refusal) (d : Device) (place : ℕ) → CreatedAs node answer d
+      → Counted before d (number_answered answer) place after → Put (plain_line (number_answered answer)) out before.at left place → length out ≡ 8192 → Played before (create node) out after left
+  created node answer d place o k p l =
       let put : Put (plain_line (create_refusal node)) out before.at left after.at =
       subst (λ n. Put (plain_line n) out before.at left after.at) o.numbered
-      (subst (λ n. Put (plain_line made.number) out before.at left n) (sym k.at) p) in
+      (subst (λ n. Put (plain_line (number_answered answer)) out before.at left n) (sym k.at) p) in
       record {
         machines = subst (λ (x : Device). Same (machines_of x) (fresh_machines (created_number node))) (sym k.device) o.machines;
         answered = put;

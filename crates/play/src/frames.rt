@@ -8,7 +8,7 @@ use crate::session::Session;
 use answers::{put_frame, put_receive};
 use frame_answers::put_reply;
 use profile::Message;
-use words::items::first_bytes;
+use words::items::first_items;
 
 impl Session {
     // The first n bytes are the frame.
@@ -21,7 +21,7 @@ impl Session {
     ) -> Session
         ensures { Played self (call (Doc.receive message (take n bytes.now))) out.old result out.new }
     {
-        self.receive(message, first_bytes(bytes, n), out)
+        self.receive(message, first_items(bytes, n), out)
     }
 
     // The first n bytes are the frame's buffer.
@@ -51,19 +51,17 @@ impl Session {
         ensures { Played self (call (Doc.request (take n bytes.now) (take k others.old)))
             out.old result out.new }
     {
-        self.request(first_bytes(bytes, n), others, k, out)
+        self.request(first_items(bytes, n), others, k, out)
     }
 
     fn receive(self, message: Message, frame: &[u8], out: &mut [u8; 8192]) -> Session
         ensures { Played self (call (Doc.receive message frame.now)) out.old result out.new }
     {
-        let device = self.device;
-        let active = device.is_active();
-        let long = device.is_long(message, frame.len());
-        let got = device.receive(message, frame);
-        let at = put_receive(out, self.at, got.number, active, long);
-        let next = got.device;
-        self.after(next, got.number, at)
+        let active = self.device.is_active();
+        let long = self.device.is_long(message, frame.len());
+        let got = self.device.receive(message, frame);
+        let at = put_receive(out, self.at, active, long);
+        self.after(got, at)
     }
 
     fn transmit(
@@ -77,19 +75,16 @@ impl Session {
         ensures { Played self (call (Doc.transmit message (take size frame.old)))
             out.old result out.new }
     {
-        let device = self.device;
-        let active = device.is_active();
-        let got = device.transmit(message, &mut frame[..size]);
+        let active = self.device.is_active();
+        let got = self.device.transmit(message, &mut frame[..size]);
         let at = put_frame(
             out,
             self.at,
-            got.number,
-            first_bytes(frame, size),
-            got.count,
+            got.answer,
+            first_items(frame, size),
             active,
         );
-        let next = got.device;
-        self.after(next, got.number, at)
+        self.after(got, at)
     }
 
     fn request(self, frame: &[u8], reply: &mut [u8], size: usize, out: &mut [u8; 8192]) -> Session
@@ -97,18 +92,15 @@ impl Session {
         ensures { Played self (call (Doc.request frame.now (take size reply.old)))
             out.old result out.new }
     {
-        let device = self.device;
-        let stopped = device.is_stopped();
-        let got = device.request(frame, &mut reply[..size]);
+        let stopped = self.device.is_stopped();
+        let got = self.device.request(frame, &mut reply[..size]);
         let at = put_reply(
             out,
             self.at,
-            got.number,
-            first_bytes(reply, size),
-            got.length,
+            got.answer,
+            first_items(reply, size),
             stopped,
         );
-        let next = got.device;
-        self.after(next, got.number, at)
+        self.after(got, at)
     }
 }
