@@ -1,61 +1,88 @@
 -- The promise of a call, from what its code knows at each return.
 -- Assumes nothing.
-use mathlib.Core.Path.{◌≡◌, refl, sym, ap, subst, ◌∙◌}
+use mathlib.Core.Path.{◌≡◌, refl, sym, ap, ◌∙◌}
 use mathlib.Core.Bool.{Bool, true, false, not}
 use mathlib.Core.List.{List}
 use Prim.Native.Nat.{ℕ}
 use native.Mathlib.Omega.{arith}
 use lib.Dec.{eqb}
-use borrow.Author.Tests.{ne_eqb}
+use lib.ListN.{length, get_or}
+use lib.IntN.{ℤ}
 use Rattle.std.proofs.Common.{Result, Ok, Err}
+use Rattle.std.proofs.lemmas.Grind.{common_steps}
+use Rattle.std.specs.Result.{IsErrAnd}
 use Rattle.profile.specs.declared.Cause.{Cause}
 use Rattle.profile.specs.declared.Node.{Node}
 use Rattle.profile.specs.declared.commands.Command.{Command}
-use Rattle.profile.specs.declared.commands.Command.TheVariants.{Start, Stop, EnterPreOperational, ResetNode, ResetCommunication}
+use Rattle.profile.specs.declared.commands.Command.TheVariants.{ResetNode, ResetCommunication}
 use Rattle.profile.specs.declared.refusals.Refusal.{Refusal}
-use Rattle.profile.specs.declared.refusals.Refusal.TheVariants.{NodeNumber, CommandCode, DigitalLength, AnalogueLength, FilledLength, DriveLength, RequestLength, Stopped, NoObject, NoSubIndex, ReadOnly, TooLong, TooShort, NotAllowed, TooHigh, TooLow, CountNotZero, NotMappable, MappingTooLong}
 use Rattle.profile.specs.Numbers.{refusal_number}
+use Rattle.profile.specs.Answers.{plain_answer, sample_answer, drive_answer}
 use Rattle.profile.specs.Commands.{command_code}
 use Rattle.profile.specs.Nodes.{addressed, obey_node, raise_node, clear_node}
-use Rattle.profile.specs.Calls.{Plain, command, raise, clear, direct}
-use Rattle.profile.specs.Refusals.{refusal, command_refusal}
+use Rattle.profile.specs.Calls.{Plain, sample, command, raise, clear, drive, direct}
+use Rattle.profile.specs.Refusals.{refusal, command_refusal, sample_refusal, drive_refusal}
 use Rattle.profile.specs.Heard.{conditions}
-use Rattle.profile.specs.Replies.{plain, refuse}
+use Rattle.profile.specs.Replies.{plain, sample_reply, drive_reply, refuse}
 use Rattle.dictionary.specs.Commanded.{Commanded}
-use Rattle.channels.specs.View.{Zeroed}
+use Rattle.lines.specs.Promises as line
+use Rattle.channels.specs.View.{driven_of, Zeroed}
+use Rattle.analogue_outputs.specs.Promises as output
 use Rattle.store.specs.declared.Store.{Store}
 use Rattle.store.specs.View.{node_at, parts_of, machines_of}
 use Rattle.store.specs.Promises.{Ensured, Stepped, FreshLeft, Entered, moved}
-use Rattle.store.proofs.KeepLaws.{left_alone, taken}
+use Rattle.store.proofs.KeepLaws.{left_alone, taken, same_state}
 use Rattle.store.proofs.StepLaws.{entered, entered_reset}
-use Rattle.store.proofs.OutcomeLaws.{refused_outcome, raise_outcome, clear_outcome, obeyed_outcome, reset_outcome, other_outcome}
+use Rattle.store.proofs.OutcomeLaws.{refused_outcome, Sampling, sample_outcome, drive_outcome}
+use Rattle.store.proofs.OutcomeLaws.{raise_outcome, clear_outcome, obeyed_outcome, reset_outcome, other_outcome}
 
 -- ---- refused
 
+-- no refusal has the number of an accepted call
 some_number : (r : Refusal) → refusal_number r ≡ 0 → ⊥
-some_number NodeNumber e = absurd (omega arith)
-some_number CommandCode e = absurd (omega arith)
-some_number DigitalLength e = absurd (omega arith)
-some_number AnalogueLength e = absurd (omega arith)
-some_number FilledLength e = absurd (omega arith)
-some_number DriveLength e = absurd (omega arith)
-some_number RequestLength e = absurd (omega arith)
-some_number Stopped e = absurd (omega arith)
-some_number NoObject e = absurd (omega arith)
-some_number NoSubIndex e = absurd (omega arith)
-some_number ReadOnly e = absurd (omega arith)
-some_number TooLong e = absurd (omega arith)
-some_number TooShort e = absurd (omega arith)
-some_number NotAllowed e = absurd (omega arith)
-some_number TooHigh e = absurd (omega arith)
-some_number TooLow e = absurd (omega arith)
-some_number CountNotZero e = absurd (omega arith)
-some_number NotMappable e = absurd (omega arith)
-some_number MappingTooLong e = absurd (omega arith)
+some_number r e = grind arith
 
 pub refused : (d : Store) (c : Plain) (r : Refusal) → refusal_number r ≡ refusal (conditions (machines_of d) c) c
     → Ensured d (direct c) (refuse (refusal_number r) c) d
 refused d c r e = left_alone d _ _ (refused_outcome (parts_of d) c (refusal_number r) e (some_number r))
+
+-- the exit of a `?` answers r
+pub exit : {A : Type 0} (answer : Result A Refusal) (r : Refusal) → IsErrAnd answer (λ x. x ≡ r) → answer ≡ Err r
+exit (Ok x) r e = absurd e
+exit (Err x) r e = ap Err e
+
+module _ {A : Type 0} (answer : Result A Refusal) (r : Refusal) (is : IsErrAnd answer (λ x. x ≡ r)) where
+  pub command_refused : (d : Store) (code to : ℕ) → refusal_number r ≡ command_refusal code to
+      → Ensured d (direct (command code to)) (plain_answer answer) d
+  unfolding refusal refuse
+  command_refused d code to e = rw (exit answer r is) (refused d (command code to) r e)
+
+  pub drive_refused : (d : Store) (lines : List ℕ) (channels : List ℤ) → refusal_number r ≡ drive_refusal (length lines) (length channels)
+      → Ensured d (direct (drive lines channels)) (drive_answer answer lines channels) d
+  unfolding refusal refuse
+  drive_refused d lines channels e = rw (exit answer r is) (refused d (drive lines channels) r e)
+
+module _ (answer : Result ℕ Refusal) (r : Refusal) (is : IsErrAnd answer (λ x. x ≡ r)) where
+  pub sample_refused : (d : Store) (digital : List ℕ) (analogue : List ℤ) (events : List ℕ)
+      → refusal_number r ≡ sample_refusal (length digital) (length analogue) (length events)
+      → Ensured d (direct (sample digital analogue events)) (sample_answer answer events) d
+  unfolding refusal refuse
+  sample_refused d digital analogue events e = rw (exit answer r is) (refused d (sample digital analogue events) r e)
+
+-- ---- sample and drive
+
+pub sampled : {d e : Store} {digital : List ℕ} {analogue : List ℤ} {events shown : List ℕ} {n : ℕ}
+    → 0 ≡ sample_refusal (length digital) (length analogue) (length events) → get_or e.octets 1 0 ≡ get_or d.octets 1 0
+    → Sampling (parts_of d) (parts_of e) digital analogue shown n
+    → Ensured d (direct (sample digital analogue events)) (sample_reply n shown) e
+unfolding refusal
+sampled {d} {e} {events = events} z q s = taken d e _ _ refl refl (same_state d e q) (sample_outcome s events (sym z))
+
+pub driven : {d : Store} {lines out : List ℕ} {channels numbers : List ℤ} → 0 ≡ drive_refusal (length lines) (length channels)
+    → line.Driven d.words out → output.Driven (driven_of d.values) numbers
+    → Ensured d (direct (drive lines channels)) (drive_reply out numbers) d
+unfolding refusal
+driven {d} z l c = left_alone d _ _ (drive_outcome (parts_of d) _ _ _ _ (sym z) l c)
 
 -- ---- raise and clear
 
@@ -72,19 +99,13 @@ module _ (d e : Store) (cause : Cause) (n : Node) (en : Entered n d e) where
 
 -- ---- command
 
-other_code : (k : Command) → (k ≡ ResetNode → ⊥) → (k ≡ ResetCommunication → ⊥)
-    → (command_code k ≡ 129 → ⊥) × (eqb (command_code k) 130 ≡ false)
-other_code Start r s = (λ e. omega arith, refl)
-other_code Stop r s = (λ e. omega arith, refl)
-other_code EnterPreOperational r s = (λ e. omega arith, refl)
-other_code ResetNode r s = absurd (r refl)
-other_code ResetCommunication r s = absurd (s refl)
+other_code : (k : Command) → (k ≡ ResetNode → ⊥) → command_code k ≡ 129 → ⊥
+other_code k r e = grind arith
+
+no_reset : (k : Command) → (k ≡ ResetCommunication → ⊥) → eqb (command_code k) 130 ≡ false
+no_reset k s = grind (arith, common_steps)
 
 module _ (d : Store) (code to : ℕ) where
-  pub command_refused : (r : Refusal) → Commanded code to (Err r) → Ensured d (direct (command code to)) (plain (refusal_number r)) d
-  unfolding refusal refuse
-  command_refused r c = refused d (command code to) r c.numbered
-
   module _ (k : Command) (c : Commanded code to (Ok k)) where
     taken_code : refusal (conditions (machines_of d) (command code to)) (command code to) ≡ 0
     unfolding refusal
@@ -109,7 +130,7 @@ module _ (d : Store) (code to : ℕ) where
 
         pub obeyed : (e : Store) → (k ≡ ResetNode → ⊥) → (k ≡ ResetCommunication → ⊥) → Entered n d e
             → Ensured d (direct (command code to)) (plain 0) e
-        obeyed e r s en = let o = rw c.named at (other_code k r s) in obeyed_by e false o.0 o.1 (entered d en)
+        obeyed e r s en = obeyed_by e false (rw c.named at (other_code k r)) (rw c.named at (no_reset k s)) (entered d en)
 
         pub obeyed_reset : (e : Store) {between deltas : List ℕ} → k ≡ ResetCommunication → Zeroed 48 84 d.deltas between
             → Entered n (record d { deltas = between }) e → Zeroed 84 120 e.deltas deltas

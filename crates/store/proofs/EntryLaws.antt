@@ -7,9 +7,10 @@ use Prim.Native.Nat.{ℕ, zero, suc, ◌+◌, ◌*◌, ◌/◌, ◌^◌, ◌≤�
 use native.Mathlib.Nat.{lt_of_lt_of_le, pow-suc}
 use native.Mathlib.Omega.{arith}
 use lib.Dec.{eqb, ltb}
+use Rattle.std.proofs.lemmas.Grind.{common_steps}
 use lib.ListN.{length}
 use lib.Pow.{pow_mono, pow-add}
-use borrow.Author.Tests.{eqb-true, eqb-false, ltb-false}
+use borrow.Author.Tests.{eqb-true, ltb-false}
 use Rattle.profile.specs.Entries.{Entry}
 use Rattle.profile.specs.declared.Home.{Home}
 use Rattle.profile.specs.declared.Home.TheVariants.{Constant, Window, InputChannel, OutputChannel, Sources, Device, MappingEntry}
@@ -33,35 +34,14 @@ covers r =
     }
 
 readable : (e : Entry) (h : Home) → InRange e h → Readable h
-readable e (Constant v) r = tt
-readable e (Window row w s) r = (covers r, r.row_is)
-readable e (InputChannel index n) r = r.0
-readable e (OutputChannel index n) r = r.0
-readable e Sources r = tt
-readable e (Device index) r = tt
-readable e (MappingEntry m sub) r = (r.0, r.1)
+readable e h r = grind (arith, covers)
 
 pub entry_readable : (index sub : ℕ) → Readable (home_of index sub)
 entry_readable index sub = readable (entry_of index sub) (home_of index sub) (in_range index sub)
 
 -- an entry that may be written has at most four bytes
-divide : (w : ℕ) → w ≤ 32 → w / 8 ≤ 4
-divide w h = omega arith
-
-either : (b : Bool) (x y : ℕ) → x ≤ 4 → y ≤ 4 → cond b x y ≤ 4
-either true x y p q = p
-either false x y p q = q
-
 pub entry_short : (e : Entry) (h : Home) → InRange e h → e.fixed ≡ false → e.size ≤ 4
-entry_short e (Constant v) r p = absurd (true≢false (sym r ∙ p))
-entry_short e (Window row w s) r p = rw r.size_is (either (eqb w 1) 1 (w / 8) (omega arith) (divide w r.width.narrow))
-entry_short e (InputChannel index n) r p = rw r.1
-    (either (eqb index 0x6401) 2 _ (omega arith) (either (eqb index 0x6421) 1 4 (omega arith) (omega arith)))
-entry_short e (OutputChannel index n) r p = rw r.1
-    (either (eqb index 0x6411) 2 _ (omega arith) (either (eqb index 0x6443) 1 4 (omega arith) (omega arith)))
-entry_short e Sources r p = absurd (true≢false (sym r ∙ p))
-entry_short e (Device index) r p = rw r (omega arith)
-entry_short e (MappingEntry m sub) r p = rw r.2 (either (eqb sub 0) 1 4 (omega arith) (omega arith))
+entry_short e h r p = grind (arith, common_steps)
 
 -- ---- the value of a window fits its width
 
@@ -84,16 +64,11 @@ window_by w v false e h a = lt_of_lt_of_le h (rw (bytes_bits (w / 8)) (pow_mono 
     part w = omega arith
 
 writable_row : (row : ℕ) → eqb row 0 ≡ false → 1 ≤ row
-writable_row row e = let ne : row ≡ 0 → ⊥ = eqb-false row 0 e in omega arith
-
-or_right : (a b : Bool) → a || b ≡ false → b ≡ false
-or_right true b e = absurd (true≢false e)
-or_right false b e = e
+writable_row row e = grind (arith, common_steps)
 
 -- the highest value of a one-bit entry is 1
 at_most : (t : Bool) (low high v : ℕ) → high ≡ cond t 1 any → ltb v low || ltb high v ≡ false → t && ltb 1 v ≡ false
-at_most true low high v e a = or_right (ltb v low) (ltb 1 v) (rw e at a)
-at_most false low high v e a = refl
+at_most t low high v e a = grind arith
 
 -- ---- what the checks leave
 

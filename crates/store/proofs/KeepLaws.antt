@@ -9,7 +9,6 @@ use lib.ListN.{length, get_or}
 use Rattle.std.proofs.lemmas.Grind.{common_steps}
 use lib.IntN.{ℤ, pos}
 use Rattle.profile.specs.declared.State.{State}
-use Rattle.profile.specs.declared.State.TheVariants.{PreOperational, Operational, Stopped}
 use Rattle.profile.specs.declared.Node.{Node}
 use Rattle.profile.specs.Bits.{bit_at}
 use Rattle.profile.specs.Calls.{Call, Reply}
@@ -79,9 +78,7 @@ mappings_kept deltas deltas' d i h =
 -- ---- the node stored
 
 state_back : (s : State) → state_of (state_number s) ≡ s
-state_back PreOperational = refl
-state_back Operational = refl
-state_back Stopped = refl
+state_back s = grind arith
 
 pub node_octets_lem : (octets : List ℕ) (n : Node) (k : ℕ) → 3 ≤ k → k < 21 → get_or (node_octets octets n) k 0 ≡ get_or octets k 0
 node_octets_lem octets n k from to = grind (arith, common_steps)

@@ -1,17 +1,15 @@
 -- From the promises of the lines and the channels to every machine of the device.
 -- Assumes nothing.
 use mathlib.Core.Path.{◌≡◌, refl, ap, ap₂, ◌∙◌, sym}
-use mathlib.Core.Bool.{Bool, true, false, not, cond, ◌||◌, ◌&&◌, or-false}
-use mathlib.Core.List.{List, [], ◌∷◌}
-use Prim.Native.Nat.{ℕ, zero, suc, ◌<◌, ◌%◌}
+use mathlib.Core.Bool.{Bool, false, not, cond, ◌||◌, ◌&&◌, or-false}
+use mathlib.Core.List.{List}
+use Prim.Native.Nat.{ℕ, zero, suc, ◌<◌}
 use native.Mathlib.Omega.{arith}
 use lib.Dec.{eqb, ltb, leb}
-use types.Run.{OneOf, miss}
-use denote.Enum.Declared.{tag_of}
-use borrow.Author.Tests.{eqb-true}
+use Rattle.std.proofs.lemmas.Grind.{common_steps}
 use Rattle.profile.specs.declared.Node.{Node}
 use Rattle.profile.specs.declared.Home.{Home}
-use Rattle.profile.specs.declared.Home.TheVariants.{Constant, Window, InputChannel, OutputChannel, Sources, Device, MappingEntry}
+use Rattle.profile.specs.declared.Home.TheVariants.{Window, InputChannel, OutputChannel, Sources, Device, MappingEntry}
 use Rattle.profile.specs.Bits.{bit_at}
 use Rattle.profile.specs.Nodes.{fresh_node, fault}
 use Rattle.profile.specs.Entries.{inside, bit_of}
@@ -28,7 +26,6 @@ use Rattle.profile.specs.Mapping.{write_mapping}
 use Rattle.profile.specs.Heard.{Machines, fresh_machines}
 use Rattle.profile.proofs.BitLaws.{bit_zero}
 use Rattle.profile.proofs.StepLaws.{cond_same, setting_names, setting_owns}
-use Rattle.profile.specs.contracts.Home.{the_type}
 use Rattle.profile.specs.Outcome.{Same}
 use Rattle.windows.specs.View.{row_at}
 use Rattle.lines.specs.View.{input_at, output_at}
@@ -36,7 +33,7 @@ use Rattle.lines.specs.Promises as line
 use Rattle.analogue_inputs.specs.Promises as input
 use Rattle.analogue_outputs.specs.Promises as output
 use Rattle.store.specs.View.{Parts, own_of, machines}
-use Rattle.store.specs.Promises.{moved, wrote, has_read, held_by}
+use Rattle.store.specs.Promises.{moved, wrote, has_read}
 
 -- two families are the same where they are so at each kind
 pub by_kind : (a b : Machines) → a node_alone 0 ≡ b node_alone 0
@@ -108,8 +105,7 @@ node_moved d r n reset before after b a e l is os ms =
 
 choice : {k : Kind} (b : Bool) (n : Node) (o p : Own k) → ◌≡◌ {A = Machine k} (record { node = n; own = cond b o p })
     (cond b (record { node = n; own = o }) (record { node = n; own = p }))
-choice true n o p = refl
-choice false n o p = refl
+choice b n o p = grind arith
 
 module _ (d r : Parts) (node : r.node ≡ d.node) where
   pub window_wrote : (row w s v : ℕ) → line.Written (fault d.node) d.words row w s v r.words
@@ -160,8 +156,7 @@ module _ (d r : Parts) (node : r.node ≡ d.node) (lines : r.words ≡ d.words) 
 setting_by : (index v : ℕ) (n : Node) (k : Kind) (o : Own k) (t : Bool) → eqb index 0x1001 ≡ t
     → ◌≡◌ {A = Machine k} (record { node = write_node (Device index) v n; own = o })
     (cond (not t) (record { node = write_node (Device index) v n; own = o }) (record { node = n; own = o }))
-setting_by index v n k o true e = same_machine (ap (λ (x : ℕ). write_node (Device x) v n) (eqb-true index 0x1001 e)) refl
-setting_by index v n k o false e = refl
+setting_by index v n k o t e = grind (arith, common_steps)
 
 -- 1029:1, 2003:0, 6005 or 6423
 pub setting_wrote : (d r : Parts) (index v : ℕ) → r.node ≡ write_node (Device index) v d.node
@@ -179,26 +174,6 @@ setting_wrote d r index v n ls is os ms =
     }
 
 -- ---- reads
-
--- where `if let Home::Sources` does not match, no source bit is read
-pub not_sources : (e : Home) → OneOf (0 ∷ 1 ∷ 2 ∷ 3 ∷ 5 ∷ 6 ∷ []) (tag_of the_type e) → reads_sources e ≡ false
-not_sources (Constant v) h = refl
-not_sources (Window row w s) h = refl
-not_sources (InputChannel index n) h = refl
-not_sources (OutputChannel index n) h = refl
-not_sources Sources h = absurd (miss (0 ∷ 1 ∷ 2 ∷ 3 ∷ 5 ∷ 6 ∷ []) 4 tt h)
-not_sources (Device index) h = refl
-not_sources (MappingEntry m sub) h = refl
-
--- where `if let Home::MappingEntry` does not match, no row depends on what the array holds
-pub not_held : (deltas : List ℕ) (e : Home) (v : ℕ) → OneOf (0 ∷ 1 ∷ 2 ∷ 3 ∷ 4 ∷ 5 ∷ []) (tag_of the_type e) → held_by deltas e v ≡ []
-not_held deltas (Constant x) v h = refl
-not_held deltas (Window row w s) v h = refl
-not_held deltas (InputChannel index n) v h = refl
-not_held deltas (OutputChannel index n) v h = refl
-not_held deltas Sources v h = refl
-not_held deltas (Device index) v h = refl
-not_held deltas (MappingEntry m sub) v h = absurd (miss (0 ∷ 1 ∷ 2 ∷ 3 ∷ 4 ∷ 5 ∷ []) 6 tt h)
 
 -- any entry but 6422:1 leaves every machine
 pub read_same : (d : Parts) (e : Home) → reads_sources e ≡ false → Same (machines d) (has_read e d)
@@ -218,8 +193,4 @@ sources_read d r sources n ls is os ms =
 -- a row with no line set
 pub zero_row : (i : ℕ) → row_at (record { low = 0; high = 0 }) i ≡ false
 unfolding row_at
-zero_row i = ap₂ (cond (ltb i 64)) (bit_zero (i % 64)) (bit_zero (i % 64)) ∙ by (ltb i 64)
-  where
-    by : (b : Bool) → cond b false false ≡ false
-    by true = refl
-    by false = refl
+zero_row i = grind (arith, bit_zero)

@@ -1,17 +1,16 @@
 -- From what the code of a call knows at each return to the promise of the call.
 -- Assumes nothing.
 use mathlib.Core.Path.{◌≡◌, refl, ap, ap₂, ◌∙◌, sym}
-use mathlib.Core.Bool.{Bool, true, false, not, cond, ◌&&◌}
-use mathlib.Core.List.{List, [], ◌∷◌, ◌++◌}
+use mathlib.Core.Bool.{Bool, true, false, cond, ◌&&◌}
+use mathlib.Core.List.{List, [], ◌++◌}
 use Prim.Native.Nat.{ℕ, ◌<◌, ◌≤◌}
 use native.Mathlib.Omega.{arith}
 use lib.Dec.{eqb}
 use lib.ListN.{length}
 use lib.IntN.{ℤ}
-use borrow.Author.Tests.{eq-eqb, ne_eqb, eqb-true, not-false}
+use borrow.Author.Tests.{eq-eqb, ne_eqb}
 use Rattle.profile.specs.declared.Cause.{Cause}
 use Rattle.profile.specs.declared.Home.{Home}
-use Rattle.profile.specs.declared.Home.TheVariants.{Constant, Window, InputChannel, OutputChannel, Sources, Device, MappingEntry}
 use Rattle.profile.specs.Bytes.{little_endian, bytes}
 use Rattle.profile.specs.InputLine.{sample_line, edge, line_event}
 use Rattle.profile.specs.OutputLine.{move_output_line}
@@ -28,8 +27,8 @@ use Rattle.analogue_outputs.specs.Promises as output
 use Rattle.profile.specs.Nodes.{stopped, operational, fault, raise_node, clear_node, addressed, obey_node, command_node}
 use Rattle.profile.specs.Entries.{entry_of, home_of, at_mapping}
 use Rattle.profile.specs.Calls.{Plain, read, write, sample, command, raise, clear, drive, direct, Reply}
-use Rattle.profile.specs.Refusals.{◌⇒◌, Check, first, entry_checks, access_checks, value_checks, mapping_checks, read_refusal, write_refusal}
-use Rattle.profile.specs.Refusals.{sample_refusal, drive_refusal, refusal, accepted}
+use Rattle.profile.specs.Refusals.{Check, first, entry_checks, access_checks, value_checks, mapping_checks, read_refusal, write_refusal}
+use Rattle.profile.specs.Refusals.{refusal, accepted}
 use Rattle.profile.specs.Machines.{Kind, node_alone, input_line, output_line, analogue_input, analogue_output, mapping, count, Own, move_own}
 use Rattle.profile.specs.Machines.{command_own, clear_own, hears, known}
 use Rattle.profile.specs.Entries.{reads_sources}
@@ -37,7 +36,6 @@ use Rattle.profile.specs.Heard.{fresh_machines, conditions, number_of, step_all}
 use Rattle.profile.specs.Replies.{read_value, plain, read_reply, sample_reply, drive_reply, line_events, answer, answer_to, refuse, refuse_to}
 use Rattle.profile.specs.Replies.{reply}
 use Rattle.profile.specs.Outcome.{Same, Outcome}
-use Rattle.profile.proofs.BoolLaws.{both}
 use Rattle.profile.proofs.ListLaws.{bytes_cong}
 use Rattle.profile.proofs.NodesAgree.{known_of}
 use Rattle.profile.proofs.RefusalLaws.{none_holds, first_skip, first_stop, access_sound}
@@ -123,13 +121,7 @@ module _ (d r : Parts) (e : Home) (node : r.node ≡ d.node) (words : r.words �
 -- the rows of the array and those of the conditions
 held_same : (d : Store) (e : Home) (v : ℕ) → held_by d.deltas e v
     ≡ at_mapping [] (λ m sub. mapping_checks ((parts_of d).mappings (at_mapping 0 (λ j s. j) e)) m sub v) e
-held_same d (Constant c) v = refl
-held_same d (Window row w s) v = refl
-held_same d (InputChannel index n) v = refl
-held_same d (OutputChannel index n) v = refl
-held_same d Sources v = refl
-held_same d (Device index) v = refl
-held_same d (MappingEntry m sub) v = refl
+held_same d e v = grind arith
 
 -- the rows of a write before its value, and on its value
 abbrev access_rows : Parts → ℕ → ℕ → List ℕ → List Check
@@ -225,25 +217,6 @@ other_outcome d code to taken h = commanded d d code to taken
     (λ k i l. rw h (same_machine refl (sym (move_still (fault d.node) k (own_of d k i)))))
 
 -- ---- samples and drives
-
--- the lengths of the buffers of an accepted sample, and of an accepted drive
-pub sample_lengths : (a b e : ℕ) → sample_refusal a b e ≡ 0 → (a ≡ 16) × (b ≡ 16) × (e ≡ 16)
-unfolding sample_refusal
-sample_lengths a b e z =
-    let none = none_holds ((not (eqb a 16) ⇒ 3) ∷ (not (eqb b 16) ⇒ 4) ∷ (not (eqb e 16) ⇒ 5) ∷ [])
-    (λ h. omega arith, (λ h. omega arith, (λ h. omega arith, tt))) z in (
-      eqb-true a 16 (not-false (eqb a 16) none.0),
-      eqb-true b 16 (not-false (eqb b 16) none.1.0),
-      eqb-true e 16
-          (not-false (eqb e 16) none.1.1.0),
-    )
-
-pub drive_lengths : (a b : ℕ) → drive_refusal a b ≡ 0 → (a ≡ 16) × (b ≡ 8)
-unfolding drive_refusal
-drive_lengths a b z =
-    let none = none_holds ((not (eqb a 16 && eqb b 8) ⇒ 6) ∷ []) (λ h. omega arith, tt) z in
-    let long = both (eqb a 16) (eqb b 8) (not-false (eqb a 16 && eqb b 8) none.0) in
-    (eqb-true a 16 long.0, eqb-true b 8 long.1)
 
 -- what is known once the buffers have their lengths
 pub record Sampling (d r : Parts) (digital : List ℕ) (analogue : List ℤ) (shown : List ℕ) (events : ℕ) : Type 0 where

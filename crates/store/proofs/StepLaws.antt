@@ -1,11 +1,11 @@
 -- What the parts of a call make of the arrays, as steps of the machines.
 -- Assumes nothing.
 use mathlib.Core.Path.{◌≡◌, refl, sym, ap, subst, ◌∙◌}
-use mathlib.Core.Bool.{Bool, true, false, cond, false≢true}
+use mathlib.Core.Bool.{Bool, true, false, cond}
 use mathlib.Core.List.{List, [], ◌∷◌}
 use Prim.Native.Nat.{ℕ, ◌<◌}
 use native.Mathlib.Omega.{arith}
-use lib.ListN.{length, get_or, replicate}
+use lib.ListN.{get_or, replicate}
 use lib.IntN.{ℤ, pos}
 use Rattle.profile.specs.declared.Node.{Node}
 use Rattle.profile.specs.declared.Home.{Home}
@@ -19,7 +19,6 @@ use Rattle.profile.specs.Entries.{reads_sources}
 use Rattle.profile.specs.NodeAlone.{write_node}
 use Rattle.profile.specs.Replies.{read_value}
 use Rattle.profile.specs.MappedEntries.{empty_mapping}
-use Rattle.profile.specs.Outcome.{Same}
 use Rattle.lines.specs.Promises as line
 use Rattle.lines.proofs.ColumnLaws.{end, ◌▸◌, all_at}
 use Rattle.channels.specs.View.{input_at, output_at, sources_of}
@@ -102,13 +101,13 @@ module _ (d : Store) where
       → Entered n (record d { deltas = between }) left → Stepped d (record left { deltas = deltas }) (moved n reset (parts_of d))
   entered_by {n} {left} between deltas reset low ms e =
       let r = record (with_node n d) { words = left.words; deltas = deltas; values = left.values } in
-      let c = e.followed.channels in
+      let c = e.channels in
       let P : Store → Type 0 = λ x. Stepped d x (moved n reset (parts_of d)) in
       subst P (sym (ap (λ (x : Store). record x { deltas = deltas }) e.stored))
       (record {
         machines =
             node_moved (parts_of d) (parts_of r) n reset _ _ refl refl (node_stored d.octets d.flags n e.sized.octets e.sized.flags)
-            e.followed.lines (inputs_past n deltas left.values low c.values_kept.low)
+            e.lines (inputs_past n deltas left.values low c.values_kept.low)
             (record { channels = λ i h. c.moved.channels i h ∙ ap (move_analogue_output _ _) (outputs_past n i h) }) ms;
         normal = λ old. record { state = node_normal d.octets d.flags n e.sized.octets e.sized.flags };
       })
@@ -198,13 +197,7 @@ module _ (d : Store) where
   sources_in : (e : Home) (v : ℕ) → v ≡ read_value (machines_of d) e → reads_sources e ≡ true
       → v ≡ gather 16 (bit_at (sources_of d.octets))
   unfolding read_value
-  sources_in (Constant x) v q h = absurd (false≢true h)
-  sources_in (Window row w s) v q h = absurd (false≢true h)
-  sources_in (InputChannel index n) v q h = absurd (false≢true h)
-  sources_in (OutputChannel index n) v q h = absurd (false≢true h)
-  sources_in Sources v q h = q
-  sources_in (home.Device index) v q h = absurd (false≢true h)
-  sources_in (MappingEntry m sub) v q h = absurd (false≢true h)
+  sources_in e v q h = grind arith
 
   module _ (octets : List ℕ) (e : Home) (v : ℕ) (ev : v ≡ read_value (machines_of d) e) (s : SourcesRead e d.octets octets) where
     read_by : (b : Bool) → reads_sources e ≡ b → Stepped d (with_octets octets d) (has_read e (parts_of d))

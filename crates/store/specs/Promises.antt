@@ -1,6 +1,6 @@
 -- What the calls in place promise of the six arrays, and what the parts of a call promise to it.
 -- Assumes nothing.
-use Rattle.std.specs.Prelude.{◌≡◌, Bool, true, false, not, cond, ◌||◌, List, [], ℕ, ◌≤◌, ◌<◌, ◌^◌, ℤ}
+use Rattle.std.specs.Prelude.{◌≡◌, Bool, true, false, not, cond, ◌||◌, List, [], ℕ, ◌≤◌, ◌<◌, ◌^◌}
 use Rattle.profile.specs.declared.Node.{Node}
 use Rattle.profile.specs.declared.Home.{Home}
 use Rattle.profile.specs.declared.Home.TheVariants.{Constant, Window, InputChannel, OutputChannel, Sources, MappingEntry}
@@ -105,16 +105,12 @@ Writable (MappingEntry m sub) v = (m < 8) × (sub ≤ 8)
 abbrev pub held_by : List ℕ → Home → ℕ → List Check
 held_by deltas e v = at_mapping [] (λ m sub. mapping_checks (mapping_at deltas m) m sub v) e
 
--- the outputs have moved as fault began, lasted or ended
-pub record Followed (before after : Bool) (flags : List Bool) (words words' : List ℕ) (values values' : List ℤ) : Type 0 where
-  pub lines : Moved before after words words'
-  pub channels : OutputsMoved before after (output_at flags values) (output_at flags values') values values'
-
--- the node n was stored, and the outputs have moved as it tells
+-- the node n was stored, and the outputs have moved as fault began, lasted or ended
 pub record Entered (n : Node) (before left : Store) : Type 0 where
   pub stored : left ≡ record (with_node n before) { words = left.words; values = left.values }
-  pub followed : Followed (fault (node_at before.octets before.flags)) (fault n) (node_flags before.flags n) before.words left.words
-      before.values left.values
+  pub lines : Moved (fault (node_at before.octets before.flags)) (fault n) before.words left.words
+  pub channels : OutputsMoved (fault (node_at before.octets before.flags)) (fault n)
+      (output_at (node_flags before.flags n) before.values) (output_at (node_flags before.flags n) left.values) before.values left.values
   pub sized : Sized before
 
 -- an accepted read of 6422:1 clears the source bits, any other read leaves them

@@ -1,4 +1,4 @@
-// The six arrays of a device as one struct: the node that they hold, and fresh arrays. What the calls in place promise of them is in specs/.
+// The six arrays of a device as one struct: the node that they hold, and fresh ones. What the calls promise of them is in specs/.
 #![tactic(auto)]
 
 ghost use Rattle.std.specs.Prelude.{◌≡◌};
@@ -62,6 +62,7 @@ impl Store {
         }
     }
 
+    // A caller's proof learns the lengths of the arrays too.
     pub fn set_node(&mut self, new: Node)
         ensures stored { self.new ≡ with_node new self.old }
         ensures sized { Sized self.old }

@@ -1,14 +1,13 @@
 -- command: refused, for another node, reset node, or obeyed.
 -- Assumes nothing.
 use mathlib.Core.Path.{sym, ◌∙◌}
-use Rattle.std.proofs.lemmas.Result.{err_from_is_err_and}
 use Rattle.store.proofs.CallLaws.{command_refused, passed, reset, obeyed, obeyed_reset}
 use Rattle.network.proofs.command.Goals as goal
 
 pub returns-in_err-command : goal.returns-in_err-command
 returns-in_err-command c =
-    let p = err_from_is_err_and c.from_residual.result c.from_residual.ensures.1 in
-    rw (p.1, p.2) (command_refused _ _ _ _ c.in_err-command.ensures)
+    let e = c.in_err-command in
+    command_refused c.from_residual.result e.field-0.0 c.from_residual.ensures.1 _ _ _ e.ensures.numbered
 
 pub returns-then-not-is_addressed : goal.returns-then-not-is_addressed
 returns-then-not-is_addressed c =

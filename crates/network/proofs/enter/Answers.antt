@@ -12,6 +12,7 @@ returns-else-before-after c =
     rw c.set_node.ensures.stored
     (record {
       stored = refl;
-      followed = record { lines = line.unmoved _ _ _ lasts; channels = channel.unmoved _ _ _ _ lasts };
+      lines = line.unmoved _ _ _ lasts;
+      channels = channel.unmoved _ _ _ _ lasts;
       sized = c.set_node.ensures.sized;
     })
