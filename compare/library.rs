@@ -1,4 +1,4 @@
-//! The static library io401, called as C calls it: the arrays of a device by pointer, slices as pointer and length.
+//! The static library io401, called as C calls it: a device by pointer, slices as pointer and length.
 
 use crate::calls::{Answer, Cause, Machine, Message};
 
@@ -38,45 +38,30 @@ struct Request {
     length: usize,
 }
 
-type Octets = *mut [u8; 22];
-type Flags = *mut [bool; 12];
-type Words = *mut [u64; 40];
-type Limits = *mut [i32; 32];
-type Deltas = *mut [u32; 120];
-type Values = *mut [i16; 56];
-
 unsafe extern "C" {
-    fn io401_create_arrays(o: Octets, f: Flags, w: Words, l: Limits, d: Deltas, v: Values, number: u8) -> u32;
-    fn io401_read_arrays(o: Octets, f: Flags, w: Words, l: Limits, d: Deltas, v: Values, index: u16, sub: u8) -> Read;
-    fn io401_write_arrays(
-        o: Octets, f: Flags, w: Words, l: Limits, d: Deltas, v: Values, index: u16, sub: u8, bytes: *const u8, length: usize,
-    ) -> u32;
+    fn io401_create_arrays(device: *mut Device, number: u8) -> u32;
+    fn io401_read_arrays(device: *mut Device, index: u16, sub: u8) -> Read;
+    fn io401_write_arrays(device: *mut Device, index: u16, sub: u8, bytes: *const u8, length: usize) -> u32;
     fn io401_sample_arrays(
-        o: Octets, f: Flags, w: Words, l: Limits, d: Deltas, v: Values,
+        device: *mut Device,
         digital: *const u8, digital_length: usize, analogue: *const i16, analogue_length: usize, events: *mut u8, events_length: usize,
     ) -> Sample;
-    fn io401_command_arrays(o: Octets, f: Flags, w: Words, l: Limits, d: Deltas, v: Values, code: u8, node: u8) -> u32;
-    fn io401_raise_arrays(o: Octets, f: Flags, w: Words, v: Values, loss: bool) -> u32;
-    fn io401_clear_arrays(o: Octets, f: Flags, w: Words, v: Values, loss: bool) -> u32;
-    fn io401_drive_arrays(w: Words, v: Values, lines: *mut u8, lines_length: usize, channels: *mut i16, channels_length: usize) -> u32;
-    fn io401_receive_arrays(
-        o: Octets, f: Flags, w: Words, l: Limits, d: Deltas, v: Values, second_pair: bool, second: bool, frame: *const u8, length: usize,
-    ) -> u32;
-    fn io401_transmit_arrays(
-        o: Octets, f: Flags, w: Words, l: Limits, d: Deltas, v: Values, second_pair: bool, second: bool, frame: *mut u8, length: usize,
-    ) -> Transmit;
+    fn io401_command_arrays(device: *mut Device, code: u8, node: u8) -> u32;
+    fn io401_raise_arrays(device: *mut Device, loss: bool) -> u32;
+    fn io401_clear_arrays(device: *mut Device, loss: bool) -> u32;
+    fn io401_drive_arrays(device: *const Device, lines: *mut u8, lines_length: usize, channels: *mut i16, channels_length: usize) -> u32;
+    fn io401_receive_arrays(device: *mut Device, second_pair: bool, second: bool, frame: *const u8, length: usize) -> u32;
+    fn io401_transmit_arrays(device: *const Device, second_pair: bool, second: bool, frame: *mut u8, length: usize) -> Transmit;
     fn io401_request_arrays(
-        o: Octets, f: Flags, w: Words, l: Limits, d: Deltas, v: Values,
-        request: *const u8, request_length: usize, reply: *mut u8, reply_length: usize,
+        device: *mut Device, request: *const u8, request_length: usize, reply: *mut u8, reply_length: usize,
     ) -> Request;
 }
 
-// The calls that take all six. Every pointer is that of a live array or slice, and no two overlap; so below.
+// Every pointer is that of a live device or slice, and no two overlap.
 macro_rules! call {
-    ($name:ident, $device:expr $(, $more:expr)*) => {{
-        let d = $device;
-        unsafe { $name(&mut d.octets, &mut d.flags, &mut d.words, &mut d.limits, &mut d.deltas, &mut d.values $(, $more)*) }
-    }};
+    ($name:ident, $device:expr $(, $more:expr)*) => {
+        unsafe { $name($device $(, $more)*) }
+    };
 }
 
 /// Whether it is one of the last two, and whether it is the second of its two.
@@ -119,21 +104,17 @@ impl Machine for Device {
 
     fn raise(&mut self, cause: Cause) -> Answer {
         let loss = cause == Cause::CommunicationLoss;
-        let (o, f, w, v) = (&mut self.octets, &mut self.flags, &mut self.words, &mut self.values);
-        Answer::refused(unsafe { io401_raise_arrays(o, f, w, v, loss) })
+        Answer::refused(call!(io401_raise_arrays, self, loss))
     }
 
     fn clear(&mut self, cause: Cause) -> Answer {
         let loss = cause == Cause::CommunicationLoss;
-        let (o, f, w, v) = (&mut self.octets, &mut self.flags, &mut self.words, &mut self.values);
-        Answer::refused(unsafe { io401_clear_arrays(o, f, w, v, loss) })
+        Answer::refused(call!(io401_clear_arrays, self, loss))
     }
 
     fn drive(&mut self, lines: &mut [u8], channels: &mut [i16]) -> Answer {
         let (l, c) = (lines.as_mut_ptr(), channels.as_mut_ptr());
-        Answer::refused(unsafe {
-            io401_drive_arrays(&mut self.words, &mut self.values, l, lines.len(), c, channels.len())
-        })
+        Answer::refused(call!(io401_drive_arrays, self, l, lines.len(), c, channels.len()))
     }
 
     fn receive(&mut self, message: Message, frame: &[u8]) -> Answer {

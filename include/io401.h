@@ -157,42 +157,37 @@ IO401_ASSERT(sample_answer, sizeof(io401_sample_answer) == 8);
 IO401_ASSERT(sample_answer_events, offsetof(io401_sample_answer, events) == 4);
 IO401_ASSERT(transmit_answer, sizeof(io401_transmit_answer) == 16);
 IO401_ASSERT(transmit_answer_count, offsetof(io401_transmit_answer, count) == 8);
+IO401_ASSERT(device, sizeof(io401_device) == 1080);
+IO401_ASSERT(device_flags, offsetof(io401_device, flags) == 22);
+IO401_ASSERT(device_words, offsetof(io401_device, words) == 40);
+IO401_ASSERT(device_limits, offsetof(io401_device, limits) == 360);
+IO401_ASSERT(device_deltas, offsetof(io401_device, deltas) == 488);
+IO401_ASSERT(device_values, offsetof(io401_device, values) == 968);
 IO401_ASSERT(request_answer, sizeof(io401_request_answer) == 16);
 IO401_ASSERT(request_answer_length, offsetof(io401_request_answer, length) == 8);
 
 /*
- * The archive's functions: each takes the arrays of a device that it needs, and changes none that it
- * takes as const. Two bools name one of four messages, so that no other can be named: `second_pair` is
- * true for 1602, 1603, 1A02 and 1A03, `second` for 1601, 1603, 1A01 and 1A03. Firmware calls those that
- * follow.
+ * The archive's functions, which firmware calls through those that follow. A device that is only read is const.
+ * Two bools name one of four messages, so that no other can be named: `second_pair` is true for 1602, 1603,
+ * 1A02 and 1A03, `second` for 1601, 1603, 1A01 and 1A03.
  */
-uint32_t io401_create_arrays(uint8_t *octets, bool *flags, uint64_t *words, int32_t *limits, uint32_t *deltas,
-                             int16_t *values, uint8_t number);
-io401_read_answer io401_read_arrays(uint8_t *octets, const bool *flags, const uint64_t *words, const int32_t *limits,
-                                    const uint32_t *deltas, const int16_t *values, uint16_t index, uint8_t sub);
-uint32_t io401_write_arrays(uint8_t *octets, bool *flags, uint64_t *words, int32_t *limits, uint32_t *deltas,
-                            int16_t *values, uint16_t index, uint8_t sub, const uint8_t *bytes, size_t length);
-io401_sample_answer io401_sample_arrays(uint8_t *octets, const bool *flags, uint64_t *words, const int32_t *limits,
-                                        const uint32_t *deltas, int16_t *values, const uint8_t *digital,
-                                        size_t digital_length, const int16_t *analogue, size_t analogue_length,
-                                        uint8_t *events, size_t events_length);
-uint32_t io401_command_arrays(uint8_t *octets, bool *flags, uint64_t *words, int32_t *limits, uint32_t *deltas,
-                              int16_t *values, uint8_t code, uint8_t node);
-uint32_t io401_raise_arrays(uint8_t *octets, bool *flags, uint64_t *words, int16_t *values, bool loss);
-uint32_t io401_clear_arrays(uint8_t *octets, bool *flags, uint64_t *words, int16_t *values, bool loss);
-uint32_t io401_drive_arrays(const uint64_t *words, const int16_t *values, uint8_t *lines, size_t lines_length,
-                            int16_t *channels, size_t channels_length);
-uint32_t io401_receive_arrays(uint8_t *octets, bool *flags, uint64_t *words, int32_t *limits, uint32_t *deltas,
-                              int16_t *values, bool second_pair, bool second, const uint8_t *frame, size_t length);
-io401_transmit_answer io401_transmit_arrays(const uint8_t *octets, const bool *flags, const uint64_t *words,
-                                            const int32_t *limits, const uint32_t *deltas, const int16_t *values,
-                                            bool second_pair, bool second, uint8_t *frame, size_t length);
-io401_request_answer io401_request_arrays(uint8_t *octets, bool *flags, uint64_t *words, int32_t *limits,
-                                          uint32_t *deltas, int16_t *values, const uint8_t *request,
-                                          size_t request_length, uint8_t *reply, size_t reply_length);
-
-/* A whole device as the arguments of a function above: pointers into it, no copy. */
-#define IO401_ARRAYS_OF(d) (d)->octets, (d)->flags, (d)->words, (d)->limits, (d)->deltas, (d)->values
+uint32_t io401_create_arrays(io401_device *device, uint8_t number);
+io401_read_answer io401_read_arrays(io401_device *device, uint16_t index, uint8_t sub);
+uint32_t io401_write_arrays(io401_device *device, uint16_t index, uint8_t sub, const uint8_t *bytes, size_t length);
+io401_sample_answer io401_sample_arrays(io401_device *device, const uint8_t *digital, size_t digital_length,
+                                        const int16_t *analogue, size_t analogue_length, uint8_t *events,
+                                        size_t events_length);
+uint32_t io401_command_arrays(io401_device *device, uint8_t code, uint8_t node);
+uint32_t io401_raise_arrays(io401_device *device, bool loss);
+uint32_t io401_clear_arrays(io401_device *device, bool loss);
+uint32_t io401_drive_arrays(const io401_device *device, uint8_t *lines, size_t lines_length, int16_t *channels,
+                            size_t channels_length);
+uint32_t io401_receive_arrays(io401_device *device, bool second_pair, bool second, const uint8_t *frame,
+                              size_t length);
+io401_transmit_answer io401_transmit_arrays(const io401_device *device, bool second_pair, bool second, uint8_t *frame,
+                                            size_t length);
+io401_request_answer io401_request_arrays(io401_device *device, const uint8_t *request, size_t request_length,
+                                          uint8_t *reply, size_t reply_length);
 
 /*
  * A fresh device: pre-operational, no cause of fault, every object at its default. A node number
@@ -200,7 +195,7 @@ io401_request_answer io401_request_arrays(uint8_t *octets, bool *flags, uint64_t
  */
 static inline uint32_t io401_create(io401_device *device, uint8_t number)
 {
-    return io401_create_arrays(IO401_ARRAYS_OF(device), number);
+    return io401_create_arrays(device, number);
 }
 
 /*
@@ -210,7 +205,7 @@ static inline uint32_t io401_create(io401_device *device, uint8_t number)
  */
 static inline io401_read_answer io401_read(io401_device *device, uint16_t index, uint8_t sub)
 {
-    return io401_read_arrays(IO401_ARRAYS_OF(device), index, sub);
+    return io401_read_arrays(device, index, sub);
 }
 
 /*
@@ -221,7 +216,7 @@ static inline io401_read_answer io401_read(io401_device *device, uint16_t index,
 static inline uint32_t io401_write(io401_device *device, uint16_t index, uint8_t sub, const uint8_t *bytes,
                                    size_t length)
 {
-    return io401_write_arrays(IO401_ARRAYS_OF(device), index, sub, bytes, length);
+    return io401_write_arrays(device, index, sub, bytes, length);
 }
 
 /*
@@ -252,8 +247,7 @@ static inline io401_sample_answer io401_sample(io401_device *device, const uint8
                                                const int16_t *analogue, size_t analogue_length, uint8_t *events,
                                                size_t events_length)
 {
-    return io401_sample_arrays(IO401_ARRAYS_OF(device), digital, digital_length, analogue, analogue_length, events,
-                               events_length);
+    return io401_sample_arrays(device, digital, digital_length, analogue, analogue_length, events, events_length);
 }
 
 /*
@@ -262,7 +256,7 @@ static inline io401_sample_answer io401_sample(io401_device *device, const uint8
  */
 static inline uint32_t io401_command(io401_device *device, uint8_t code, uint8_t node)
 {
-    return io401_command_arrays(IO401_ARRAYS_OF(device), code, node);
+    return io401_command_arrays(device, code, node);
 }
 
 /*
@@ -271,20 +265,20 @@ static inline uint32_t io401_command(io401_device *device, uint8_t code, uint8_t
  */
 static inline uint32_t io401_raise(io401_device *device, bool loss)
 {
-    return io401_raise_arrays(device->octets, device->flags, device->words, device->values, loss);
+    return io401_raise_arrays(device, loss);
 }
 
 /* The cause is gone. Never refused. Outputs follow what was written again when fault ends. */
 static inline uint32_t io401_clear(io401_device *device, bool loss)
 {
-    return io401_clear_arrays(device->octets, device->flags, device->words, device->values, loss);
+    return io401_clear_arrays(device, loss);
 }
 
 /* Copies what the outputs drive into sixteen bytes of lines and eight numbers. */
 static inline uint32_t io401_drive(const io401_device *device, uint8_t *lines, size_t lines_length, int16_t *channels,
                                    size_t channels_length)
 {
-    return io401_drive_arrays(device->words, device->values, lines, lines_length, channels, channels_length);
+    return io401_drive_arrays(device, lines, lines_length, channels, channels_length);
 }
 
 /*
@@ -296,22 +290,22 @@ static inline uint32_t io401_drive(const io401_device *device, uint8_t *lines, s
  */
 static inline uint32_t io401_receive_1600(io401_device *device, const uint8_t *frame, size_t length)
 {
-    return io401_receive_arrays(IO401_ARRAYS_OF(device), false, false, frame, length);
+    return io401_receive_arrays(device, false, false, frame, length);
 }
 
 static inline uint32_t io401_receive_1601(io401_device *device, const uint8_t *frame, size_t length)
 {
-    return io401_receive_arrays(IO401_ARRAYS_OF(device), false, true, frame, length);
+    return io401_receive_arrays(device, false, true, frame, length);
 }
 
 static inline uint32_t io401_receive_1602(io401_device *device, const uint8_t *frame, size_t length)
 {
-    return io401_receive_arrays(IO401_ARRAYS_OF(device), true, false, frame, length);
+    return io401_receive_arrays(device, true, false, frame, length);
 }
 
 static inline uint32_t io401_receive_1603(io401_device *device, const uint8_t *frame, size_t length)
 {
-    return io401_receive_arrays(IO401_ARRAYS_OF(device), true, true, frame, length);
+    return io401_receive_arrays(device, true, true, frame, length);
 }
 
 /*
@@ -323,22 +317,22 @@ static inline uint32_t io401_receive_1603(io401_device *device, const uint8_t *f
  */
 static inline io401_transmit_answer io401_transmit_1A00(const io401_device *device, uint8_t *frame, size_t length)
 {
-    return io401_transmit_arrays(IO401_ARRAYS_OF(device), false, false, frame, length);
+    return io401_transmit_arrays(device, false, false, frame, length);
 }
 
 static inline io401_transmit_answer io401_transmit_1A01(const io401_device *device, uint8_t *frame, size_t length)
 {
-    return io401_transmit_arrays(IO401_ARRAYS_OF(device), false, true, frame, length);
+    return io401_transmit_arrays(device, false, true, frame, length);
 }
 
 static inline io401_transmit_answer io401_transmit_1A02(const io401_device *device, uint8_t *frame, size_t length)
 {
-    return io401_transmit_arrays(IO401_ARRAYS_OF(device), true, false, frame, length);
+    return io401_transmit_arrays(device, true, false, frame, length);
 }
 
 static inline io401_transmit_answer io401_transmit_1A03(const io401_device *device, uint8_t *frame, size_t length)
 {
-    return io401_transmit_arrays(IO401_ARRAYS_OF(device), true, true, frame, length);
+    return io401_transmit_arrays(device, true, true, frame, length);
 }
 
 /*
@@ -371,7 +365,7 @@ static inline io401_transmit_answer io401_transmit_1A03(const io401_device *devi
 static inline io401_request_answer io401_request(io401_device *device, const uint8_t *request, size_t request_length,
                                                  uint8_t *reply, size_t reply_length)
 {
-    return io401_request_arrays(IO401_ARRAYS_OF(device), request, request_length, reply, reply_length);
+    return io401_request_arrays(device, request, request_length, reply, reply_length);
 }
 
 /* The state of the node, IO401_STATE_... */

@@ -1,11 +1,10 @@
 // The sixteen analogue inputs, in arrays that the caller lends.
 #![tactic(auto)]
 
-ghost use Rattle.std.specs.Prelude.{◌≡◌, ◌*◌, ◌^◌, ◌<◌, length};
-ghost use Rattle.profile.specs.Bits.{bit_at, bit, gather};
+ghost use Rattle.std.specs.Prelude.{◌≡◌, ◌^◌, ◌<◌, length};
+ghost use Rattle.profile.specs.Bits.{bit_at, gather};
 ghost use Rattle.profile.specs.AnalogueInput.{input_size};
 ghost use Rattle.profile.specs.AnalogueInput.{meets, read_analogue_input, write_analogue_input};
-ghost use Rattle.channels.specs.Numbers.{from_least};
 ghost use Rattle.analogue_inputs.specs.Promises.{meets_limit, meets_delta, still, Sampled, NumbersTaken, InputsSampled, SourcesStored};
 ghost use Rattle.analogue_inputs.specs.Promises.{InputStored};
 ghost use Rattle.channels.specs.View.{input_at, sources_of};
@@ -13,7 +12,6 @@ ghost use Rattle.channels.specs.View.{input_at, sources_of};
 use channels::fields::{
     Deltas, Limits, Octets, Values, input_at, set_sample, set_settings, set_sources, sources_at,
 };
-use channels::numbers::{bits16, bits32, signed32};
 use profile::AnalogueInput;
 
 #[derive(Clone, Copy)]
@@ -22,20 +20,14 @@ pub struct SampledChannel {
     pub event: bool,
 }
 
-// Counted up from -32,768, so that no difference of two wraps.
-fn from_least(x: i16) -> u32
-    ensures { result ≡ from_least 32768 x }
-{
-    ((x as i32) + 32768) as u32
-}
-
 // Whether a sample is past a limit that 6421 selects.
+#[tactic(auto, unfolding(crate::specs::Promises::meets_limit, profile::specs::Bits::bit_at))]
 fn meets_limit(channel: AnalogueInput, x: i16) -> bool
     ensures { result ≡ meets_limit x channel }
 {
     let selection = channel.selection;
-    let upper = channel.upper < x as i32;
-    let lower = (x as i32) < channel.lower;
+    let upper = channel.upper < i32::from(x);
+    let lower = i32::from(x) < channel.lower;
     ((selection % 2 == 1) & upper) | ((selection / 2 % 2 == 1) & lower)
 }
 
@@ -44,27 +36,19 @@ fn meets_delta(channel: AnalogueInput, x: i16) -> bool
     ensures { result ≡ meets_delta x channel }
 {
     let selection = channel.selection;
-    let to = from_least(x);
-    let from = from_least(channel.reference);
-    if to < from {
-        let fall = from - to;
-        let delta = (selection / 4 % 2 == 1) & (channel.delta < fall);
-        return delta | ((selection / 8 % 2 == 1) & (channel.negative < fall));
+    let distance = u32::from(x.abs_diff(channel.reference));
+    let delta = (selection / 4 % 2 == 1) & (channel.delta < distance);
+    if x < channel.reference {
+        return delta | ((selection / 8 % 2 == 1) & (channel.negative < distance));
     }
-    let rise = to - from;
-    let delta = (selection / 4 % 2 == 1) & (channel.delta < rise);
-    delta | ((selection / 16 % 2 == 1) & (channel.positive < rise))
+    delta | ((selection / 16 % 2 == 1) & (channel.positive < distance))
 }
 
 // Whether a sample meets a condition that 6421 selects.
 pub fn meets_selected(channel: AnalogueInput, x: i16) -> bool
     ensures { result ≡ meets x channel }
 {
-    let differs = x != channel.last;
-    if differs & meets_limit(channel, x) {
-        return true;
-    }
-    meets_delta(channel, x)
+    ((x != channel.last) & meets_limit(channel, x)) || meets_delta(channel, x)
 }
 
 // A sample that equals the last one and the reference meets nothing and leaves the channel.
@@ -91,12 +75,6 @@ pub fn sampled(channel: AnalogueInput, x: i16, on: bool) -> SampledChannel
     }
 }
 
-fn weigh(b: bool, weight: u32) -> u32
-    ensures { result ≡ bit b * weight }
-{
-    if b { weight } else { 0 }
-}
-
 // Every channel takes its number. The events, bit n - 1 for channel n.
 fn take_numbers(
     octets: &Octets,
@@ -114,18 +92,14 @@ fn take_numbers(
         values.old values.new }
 {
     let mut events: u32 = 0;
-    let mut i: usize = 16;
-    // Downward and with no running weight: fewer instructions for each channel that is still.
-    while 0 < i {
-        i -= 1;
+    // Downward: fewer instructions for each channel that is still.
+    for i in (0..16).rev() {
         let x = xs[i];
         let seen = input_at(octets, limits, deltas, values, i);
         if !is_still(seen, x) {
-            let old = input_at(octets, limits, deltas, values, i);
-            let result = sampled(old, x, on);
-            let channel = result.channel;
-            set_sample(values, i, channel);
-            events += weigh(result.event, 1u32 << i);
+            let result = sampled(seen, x, on);
+            set_sample(values, i, result.channel);
+            events |= u32::from(result.event) << i;
         }
     }
     events
@@ -169,62 +143,54 @@ pub fn clear_sources(octets: &mut Octets)
 }
 
 // The value that an index has for a channel, as an unsigned number.
+#[tactic(auto, unfolding(profile::specs::AnalogueInput::read_analogue_input))]
 pub fn read_input(channel: AnalogueInput, index: u16) -> u32
     ensures { result ≡ read_analogue_input index channel }
 {
-    if index == 0x6401 {
-        return bits16(channel.last) as u32;
+    match index {
+        0x6401 => u32::from(channel.last.cast_unsigned()),
+        0x6421 => u32::from(channel.selection),
+        0x6424 => channel.upper.cast_unsigned(),
+        0x6425 => channel.lower.cast_unsigned(),
+        0x6426 => channel.delta,
+        0x6427 => channel.negative,
+        _ => channel.positive,
     }
-    if index == 0x6421 {
-        return channel.selection as u32;
-    }
-    if index == 0x6424 {
-        return bits32(channel.upper);
-    }
-    if index == 0x6425 {
-        return bits32(channel.lower);
-    }
-    if index == 0x6426 {
-        return channel.delta;
-    }
-    if index == 0x6427 {
-        return channel.negative;
-    }
-    channel.positive
 }
 
 // A value of as many bytes as the index has.
+#[tactic(auto, unfolding(profile::specs::AnalogueInput::write_analogue_input))]
 pub fn write_input(channel: AnalogueInput, index: u16, value: u32) -> AnalogueInput
     requires { value < 256 ^ input_size index }
     ensures { result ≡ write_analogue_input index value channel }
 {
-    let number = signed32(value);
-    let mut next = channel;
-    if index == 0x6421 {
-        next.selection = value as u8;
-        return next;
+    match index {
+        0x6421 => AnalogueInput {
+            selection: value as u8,
+            ..channel
+        },
+        0x6424 => AnalogueInput {
+            upper: value.cast_signed(),
+            ..channel
+        },
+        0x6425 => AnalogueInput {
+            lower: value.cast_signed(),
+            ..channel
+        },
+        0x6426 => AnalogueInput {
+            delta: value,
+            ..channel
+        },
+        0x6427 => AnalogueInput {
+            negative: value,
+            ..channel
+        },
+        0x6428 => AnalogueInput {
+            positive: value,
+            ..channel
+        },
+        _ => channel,
     }
-    if index == 0x6424 {
-        next.upper = number;
-        return next;
-    }
-    if index == 0x6425 {
-        next.lower = number;
-        return next;
-    }
-    if index == 0x6426 {
-        next.delta = value;
-        return next;
-    }
-    if index == 0x6427 {
-        next.negative = value;
-        return next;
-    }
-    if index == 0x6428 {
-        next.positive = value;
-        return next;
-    }
-    next
 }
 
 // A value is written to one channel.

@@ -1,5 +1,4 @@
 -- Laws that the proofs of this crate cite, and those above it may.
 -- Assumes nothing.
-pub mod Mapped
 pub mod StoreLaws
 pub mod WriteLaws

@@ -156,21 +156,6 @@ expected_text Ex.Shorter = ascii "at most 1,024 bytes"
 expected_text Ex.Answer = ascii "an answer before this line"
 expected_text Ex.Message = ascii "a number from 1 to 4"
 
--- the order in which the code keeps these texts
-abbrev pub expected_place : Expected → ℕ
-expected_place Ex.Call = 0
-expected_place Ex.Byte = 1
-expected_place Ex.Small = 2
-expected_place Ex.Signed = 3
-expected_place Ex.Cause = 4
-expected_place Ex.Data = 5
-expected_place Ex.Slash = 6
-expected_place Ex.Fewer = 7
-expected_place Ex.End = 8
-expected_place Ex.Shorter = 9
-expected_place Ex.Answer = 10
-expected_place Ex.Message = 11
-
 -- "A line that is no call of this table gets `? line N: ` and what was expected"
 unfoldable pub unknown_line : ℕ → Expected → List ℕ
 unknown_line line e = ascii "? line " ++ decimal_text line ++ ascii ": " ++ ascii "expected " ++ expected_text e ++ newline

@@ -1,13 +1,15 @@
 // Answer lines: the call's number, what it answers, and words that help a person.
 #![tactic(auto)]
 
+ghost use Rattle.std.specs.Prelude.{◌≡◌, ◌++◌};
 ghost use Rattle.profile.specs.Entries.{home_of};
-ghost use Rattle.texts.specs.Texts.{Put};
+ghost use Rattle.words.specs.Ascii.{ascii};
+ghost use Rattle.texts.specs.Texts.{Put, bytes_text, decimal_text};
 ghost use Rattle.answers.specs.Answers.{number_text, end_text, lines_text, entry_text, direction_text, place_in_mapping, mapping_text};
 ghost use Rattle.answers.specs.Answers.{plain_line, write_line, read_line, sample_line, drive_line, unknown_line};
 ghost use Rattle.answers.specs.Answers.{receive_end, receive_line, frame_end, frame_line, unmet_line, totals_text, judged_text};
 
-use crate::tables::{put_attribute, put_expected, put_meaning};
+use crate::tables::{attribute, meaning, wanted};
 use dictionary::entries::find;
 use profile::Home;
 use texts::text::{
@@ -20,11 +22,12 @@ use words::items::first_bytes;
 pub mod tables;
 
 // The numbers of the papers are below 10, abort codes far above.
+#[tactic(auto, unfolding(crate::specs::Answers::number_text))]
 pub fn put_number(out: &mut [u8], at: usize, number: u32) -> usize
     ensures { Put (number_text number) out.old at out.new result }
 {
     if number < 10 {
-        return put_decimal(out, at, number as u64);
+        return put_decimal(out, at, u64::from(number));
     }
     put_long_hex(out, at, number)
 }
@@ -38,6 +41,7 @@ pub fn put_plain(out: &mut [u8], at: usize, number: u32) -> usize
 }
 
 // An accepted read, by its value's `size` lowest bytes; a refused one answers its number alone.
+#[tactic(auto, unfolding(crate::specs::Answers::read_line))]
 pub fn put_read(
     out: &mut [u8],
     at: usize,
@@ -52,17 +56,12 @@ pub fn put_read(
     if number != 0 {
         return put_plain(out, at, number);
     }
-    let bytes = [
-        (value % 256) as u8,
-        (value / 256 % 256) as u8,
-        (value / 65_536 % 256) as u8,
-        (value / 16_777_216) as u8,
-    ];
     let next = put_all(out, at, b"0 =");
-    let last = put_bytes(out, next, first_bytes(&bytes, size));
+    let last = put_bytes(out, next, first_bytes(&value.to_le_bytes(), size));
     end_access(out, last, index, sub)
 }
 
+#[tactic(auto, using(texts::proofs::PutLaws::put_then), unfolding(crate::specs::Answers::write_line))]
 pub fn put_write(out: &mut [u8], at: usize, number: u32, index: u16, sub: u8) -> usize
     ensures { Put (write_line number index sub) out.old at out.new result }
 {
@@ -76,22 +75,18 @@ pub fn put_write(out: &mut [u8], at: usize, number: u32, index: u16, sub: u8) ->
 pub fn put_sample(out: &mut [u8], at: usize, number: u32, events: &[u8], channels: u16) -> usize
     ensures { Put (sample_line number events.now channels) out.old at out.new result }
 {
-    let first = put_number(out, at, number);
-    let second = put_all(out, first, b" events");
-    let third = put_bytes(out, second, events);
-    let fourth = put_all(out, third, b" /");
-    let last = put_places(out, fourth, channels);
+    let first = put_buffer(out, at, number, b" events", events);
+    let second = put_all(out, first, b" /");
+    let last = put_places(out, second, channels);
     end(out, last, number)
 }
 
 pub fn put_drive(out: &mut [u8], at: usize, number: u32, lines: &[u8], channels: &[i16]) -> usize
     ensures { Put (drive_line number lines.now channels.now) out.old at out.new result }
 {
-    let first = put_number(out, at, number);
-    let second = put_all(out, first, b" lines");
-    let third = put_bytes(out, second, lines);
-    let fourth = put_all(out, third, b" /");
-    let last = put_numbers(out, fourth, channels);
+    let first = put_buffer(out, at, number, b" lines", lines);
+    let second = put_all(out, first, b" /");
+    let last = put_numbers(out, second, channels);
     end(out, last, number)
 }
 
@@ -100,23 +95,18 @@ pub fn put_receive(out: &mut [u8], at: usize, number: u32, active: bool, long: b
     ensures { Put (receive_line number active long) out.old at out.new result }
 {
     let next = put_number(out, at, number);
-    end_receive(out, next, active, long)
+    put_all(out, next, receive_end(active, long))
 }
 
-fn end_receive(out: &mut [u8], at: usize, active: bool, long: bool) -> usize
-    ensures { Put (receive_end active long) out.old at out.new result }
+#[tactic(auto, unfolding(crate::specs::Answers::receive_end))]
+fn receive_end(active: bool, long: bool) -> &'static [u8]
+    ensures { result.now ≡ receive_end active long }
 {
-    if !active {
-        return put_all(out, at, b" (node not operational, nothing written)\n");
+    match (active, long) {
+        (false, _) => b" (node not operational, nothing written)\n",
+        (true, false) => b" (frame shorter than its mapping, nothing written)\n",
+        (true, true) => b"\n",
     }
-    if !long {
-        return put_all(
-            out,
-            at,
-            b" (frame shorter than its mapping, nothing written)\n",
-        );
-    }
-    put(out, at, b'\n')
 }
 
 pub fn put_frame(
@@ -129,28 +119,50 @@ pub fn put_frame(
 ) -> usize
     ensures { Put (frame_line number frame.now count active) out.old at out.new result }
 {
-    let first = put_number(out, at, number);
-    let second = put_all(out, first, b" frame");
-    let third = put_bytes(out, second, frame);
-    let fourth = put_all(out, third, b" / ");
-    let last = put_decimal(out, fourth, count as u64);
-    end_frame(out, last, number, active)
+    let next = put_counted(out, at, number, b" frame", frame, count);
+    put_all(out, next, frame_end(number, active))
 }
 
 // A transmit has one refusal, whose number means the event buffer elsewhere.
-fn end_frame(out: &mut [u8], at: usize, number: u32, active: bool) -> usize
-    ensures { Put (frame_end number active) out.old at out.new result }
+#[tactic(auto, unfolding(crate::specs::Answers::frame_end))]
+fn frame_end(number: u32, active: bool) -> &'static [u8]
+    ensures { result.now ≡ frame_end number active }
 {
-    if number != 0 {
-        return put_all(out, at, b" (frame buffer not 8 bytes)\n");
+    match (number, active) {
+        (0, true) => b"\n",
+        (0, false) => b" (node not operational)\n",
+        _ => b" (frame buffer not 8 bytes)\n",
     }
-    if !active {
-        return put_all(out, at, b" (node not operational)\n");
-    }
-    put(out, at, b'\n')
+}
+
+// A number, a word, and a buffer as the call left it.
+fn put_buffer(out: &mut [u8], at: usize, number: u32, word: &[u8], buffer: &[u8]) -> usize
+    ensures { Put (number_text number ++ word.now ++ bytes_text buffer.now) out.old at out.new result }
+{
+    let first = put_number(out, at, number);
+    let second = put_all(out, first, word);
+    put_bytes(out, second, buffer)
+}
+
+// The same, and a count.
+pub fn put_counted(
+    out: &mut [u8],
+    at: usize,
+    number: u32,
+    word: &[u8],
+    buffer: &[u8],
+    count: usize,
+) -> usize
+    ensures { Put (number_text number ++ word.now ++ bytes_text buffer.now ++ ascii " / " ++ decimal_text count)
+        out.old at out.new result }
+{
+    let first = put_buffer(out, at, number, word, buffer);
+    let second = put_all(out, first, b" / ");
+    put_decimal(out, second, count as u64)
 }
 
 // A refusal's meaning and the line's end.
+#[tactic(auto, unfolding(crate::specs::Answers::end_text))]
 fn end(out: &mut [u8], at: usize, number: u32) -> usize
     ensures { Put (end_text number) out.old at out.new result }
 {
@@ -158,7 +170,7 @@ fn end(out: &mut [u8], at: usize, number: u32) -> usize
         return put(out, at, b'\n');
     }
     let first = put_all(out, at, b" (");
-    let last = put_meaning(out, first, number);
+    let last = put_all(out, first, meaning(number));
     put_all(out, last, b")\n")
 }
 
@@ -166,12 +178,10 @@ fn end(out: &mut [u8], at: usize, number: u32) -> usize
 pub fn end_access(out: &mut [u8], at: usize, index: u16, sub: u8) -> usize
     ensures { Put (entry_text (home_of index sub)) out.old at out.new result }
 {
-    let entry = find(index, sub);
-    let home = entry.home;
-    match home {
+    match find(index, sub).home {
         Home::Window(row, width, place) => {
             let first = put_all(out, at, b" (");
-            let second = put_attribute(out, first, row);
+            let second = put_all(out, first, attribute(row));
             let last = put_lines(
                 out,
                 second,
@@ -192,21 +202,23 @@ pub fn end_access(out: &mut [u8], at: usize, index: u16, sub: u8) -> usize
 fn put_mapping(out: &mut [u8], at: usize, mapping: usize, place: usize) -> usize
     ensures { Put (mapping_text mapping place) out.old at out.new result }
 {
-    let first = put_direction(out, at, mapping);
+    let first = put_all(out, at, direction(mapping));
     let second = put_all(out, first, b" mapping ");
     let third = put_decimal(out, second, (mapping % 4 + 1) as u64);
     put_place_in_mapping(out, third, place)
 }
 
-fn put_direction(out: &mut [u8], at: usize, mapping: usize) -> usize
-    ensures { Put (direction_text mapping) out.old at out.new result }
+#[tactic(auto, unfolding(crate::specs::Answers::direction_text))]
+fn direction(mapping: usize) -> &'static [u8]
+    ensures { result.now ≡ direction_text mapping }
 {
-    if mapping < 4 {
-        return put_all(out, at, b"receive");
+    match mapping {
+        0..4 => b"receive",
+        _ => b"transmit",
     }
-    put_all(out, at, b"transmit")
 }
 
+#[tactic(auto, using(texts::proofs::PutLaws::put_then), unfolding(crate::specs::Answers::place_in_mapping))]
 fn put_place_in_mapping(out: &mut [u8], at: usize, place: usize) -> usize
     ensures { Put (place_in_mapping place) out.old at out.new result }
 {
@@ -238,7 +250,7 @@ pub fn put_unknown(out: &mut [u8], at: usize, line: u64, expected: Expected) -> 
     let second = put_decimal(out, first, line);
     let third = put_all(out, second, b": ");
     let fourth = put_all(out, third, b"expected ");
-    let last = put_expected(out, fourth, expected);
+    let last = put_all(out, fourth, wanted(expected));
     put(out, last, b'\n')
 }
 
@@ -267,10 +279,11 @@ pub fn put_totals(out: &mut [u8], at: usize, calls: u64, refused: u64, unknown: 
 }
 
 // How many expected answers came and how many did not, where any was expected.
+#[tactic(auto, using(texts::proofs::PutLaws::put_none), unfolding(crate::specs::Answers::judged_text))]
 pub fn put_judged(out: &mut [u8], at: usize, met: u64, unmet: u64) -> usize
     ensures { Put (judged_text met unmet) out.old at out.new result }
 {
-    if (met == 0) & (unmet == 0) {
+    if met == 0 && unmet == 0 {
         return at;
     }
     let first = put_decimal(out, at, met);

@@ -1,8 +1,6 @@
 -- Laws that the proofs of this crate cite, and those above it may.
 -- Assumes nothing.
-pub mod TestLaws
 pub mod SignedLaws
-pub mod TwosComplement
 pub mod ByteLaws
 pub mod Sweeps
 pub mod StoreLaws

@@ -5,8 +5,8 @@ use mathlib.Core.Bool.{Bool, true, false}
 use mathlib.Core.List.{List}
 use Prim.Native.Nat.{ℕ, ◌+◌, ◌*◌, ◌≤◌, ◌<◌}
 use native.Mathlib.Omega.{arith}
-use lib.Dec.{eqb, ltb}
-use borrow.Author.Tests.{eqb-true, eqb-false, ltb-true, ltb-false}
+use lib.Dec.{ltb}
+use borrow.Author.Tests.{ltb-true, ltb-false}
 use lib.ListN.{length, get_or, set, replicate, length-set, length-replicate, get_or-replicate}
 use lib.Seq.{get_or-set_same, get_or-set_other, ext_get_or}
 use Rattle.channels.specs.View.{sources_of, Outside, Zeroed}
@@ -71,27 +71,6 @@ pub sources_kept : (octets octets' : List ℕ) → ((k : ℕ) → 19 ≤ k → k
 sources_kept octets octets' h = ap₂ (λ (a b : ℕ). a + 256 * b) (h 19 (omega arith) (omega arith)) (h 20 (omega arith) (omega arith))
 
 -- ---- elements that became 0
-
-pub zeroed_none : {a : ℕ} {xs : List ℕ} → Zeroed a a xs xs
-zeroed_none = record { zeros = λ k h l. absurd (omega (arith, h, l)); kept = outside_none }
-
-pub zeroed_more : {a k : ℕ} {xs ys : List ℕ} → a ≤ k → k < length xs → Zeroed a k xs ys → Zeroed a (k + 1) xs (set ys k 0)
-zeroed_more {a} {k} {xs} {ys} from h z =
-    record {
-      zeros = λ j f l. by j (eqb j k) refl f l;
-      kept =
-          record {
-            len = length-set ys k 0 ∙ z.kept.len;
-            low = λ j l. get_or-set_other ys k j 0 0 (λ (q : j ≡ k). omega arith) ∙ z.kept.low j l;
-            high = λ j l. get_or-set_other ys k j 0 0 (λ (q : j ≡ k). omega arith) ∙ z.kept.high j (omega arith);
-          };
-    }
-  where
-    by : (j : ℕ) (t : Bool) → eqb j k ≡ t → a ≤ j → j < k + 1 → get_or (set ys k 0) j 0 ≡ 0
-    by j true q f l = rw (eqb-true j k q) (get_or-set_same ys k 0 0 (omega (arith, h, z.kept.len)))
-    by j false q f l =
-        let ne : j ≡ k → ⊥ = eqb-false j k q in
-        get_or-set_other ys k j 0 0 ne ∙ z.zeros j f (omega arith)
 
 -- one run of them after another
 pub zeroed_both : {a b c : ℕ} {xs ys zs : List ℕ} → a ≤ b → b ≤ c → Zeroed a b xs ys → Zeroed b c ys zs → Zeroed a c xs zs

@@ -1,7 +1,7 @@
 // Where each field of a channel stands in the lent arrays: element n of its column for channel n, from 0.
-ghost use Rattle.std.specs.Prelude.{◌≡◌, ◌+◌, ◌*◌, ◌≤◌, ◌<◌, length, get_or, set, pos};
+ghost use Rattle.std.specs.Prelude.{◌≡◌, ◌+◌, ◌≤◌, ◌<◌, length, get_or, set, pos};
 ghost use Rattle.profile.specs.Bits.{bit_at};
-ghost use Rattle.channels.specs.View.{input_with, input_at, output_at, driven_of, sources_of, limits_set, deltas_set, selection_set};
+ghost use Rattle.channels.specs.View.{input_at, output_at, driven_of, sources_of, limits_set, deltas_set, selection_set};
 ghost use Rattle.channels.specs.View.{samples_set, sources_set, output_set, mode_set, modes_set, Zeroed};
 
 use profile::{AnalogueInput, AnalogueOutput};
@@ -17,7 +17,7 @@ pub const DELTAS: usize = 120;
 
 pub const VALUES: usize = 56;
 
-// The arrays that the device lends.
+// The arrays that the device lends, one for each type of element: the C interface, struct io401_device, fixes them.
 pub type Octets = [u8; OCTETS];
 
 pub type Flags = [bool; FLAGS];
@@ -66,22 +66,6 @@ pub fn input_at(
     requires { n < 16 }
     ensures { result ≡ input_at octets.now limits.now deltas.now values.now n }
 {
-    let source = source_at(octets, n);
-    input_with(source, octets, limits, deltas, values, n)
-}
-
-// With a source bit that is known.
-fn input_with(
-    source: bool,
-    octets: &Octets,
-    limits: &Limits,
-    deltas: &Deltas,
-    values: &Values,
-    n: usize,
-) -> AnalogueInput
-    requires { n < 16 }
-    ensures { result ≡ input_with source octets.now limits.now deltas.now values.now n }
-{
     AnalogueInput {
         upper: limits[n],
         lower: limits[LOWER + n],
@@ -91,7 +75,7 @@ fn input_with(
         last: values[n],
         reference: values[REFERENCE + n],
         selection: octets[SELECTION + n],
-        source,
+        source: source_at(octets, n),
     }
 }
 
@@ -108,11 +92,9 @@ pub fn set_settings(
         × (limits.new ≡ limits_set limits.old n new)
         × (deltas.new ≡ deltas_set deltas.old n new) }
 {
-    let upper = new.upper;
-    let lower = new.lower;
     octets[SELECTION + n] = new.selection;
-    limits[n] = upper;
-    limits[LOWER + n] = lower;
+    limits[n] = new.upper;
+    limits[LOWER + n] = new.lower;
     deltas[n] = new.delta;
     deltas[NEGATIVE + n] = new.negative;
     deltas[POSITIVE + n] = new.positive;
@@ -123,10 +105,8 @@ pub fn set_sample(values: &mut Values, n: usize, new: AnalogueInput)
     requires { n < 16 }
     ensures { values.new ≡ samples_set values.old n new }
 {
-    let last = new.last;
-    let reference = new.reference;
-    values[n] = last;
-    values[REFERENCE + n] = reference;
+    values[n] = new.last;
+    values[REFERENCE + n] = new.reference;
 }
 
 // y, the number last sampled.
@@ -143,11 +123,7 @@ pub fn zero_deltas(deltas: &mut Deltas, from: usize, to: usize)
     requires deltas_len { length deltas.old ≡ 120 }
     ensures { Zeroed from to deltas.old deltas.new }
 {
-    let mut k = from;
-    while k < to {
-        deltas[k] = 0;
-        k += 1;
-    }
+    deltas[from..to].fill(0);
 }
 
 // The source bit of one channel.
@@ -163,23 +139,14 @@ fn source_at(octets: &Octets, n: usize) -> bool
 pub fn sources_at(octets: &Octets) -> u32
     ensures { (result ≡ sources_of octets.now) × (result < 65536) }
 {
-    let low = octets[SOURCES_LOW];
-    let high = octets[SOURCES_HIGH];
-    two_bytes(low, high)
-}
-
-fn two_bytes(low: u8, high: u8) -> u32
-    ensures { (result ≡ low + 256 * high) × (result < 65536) }
-{
-    (low as u32) + 256 * (high as u32)
+    u32::from(u16::from_le_bytes([octets[SOURCES_LOW], octets[SOURCES_HIGH]]))
 }
 
 pub fn set_sources(octets: &mut Octets, sources: u32)
     requires { sources < 65536 }
     ensures { octets.new ≡ sources_set octets.old sources }
 {
-    octets[SOURCES_LOW] = (sources % 256) as u8;
-    octets[SOURCES_HIGH] = (sources / 256) as u8;
+    [octets[SOURCES_LOW], octets[SOURCES_HIGH]] = (sources as u16).to_le_bytes();
 }
 
 pub fn output_at(flags: &Flags, values: &Values, n: usize) -> AnalogueOutput
@@ -199,13 +166,10 @@ pub fn set_output(flags: &mut Flags, values: &mut Values, n: usize, new: Analogu
     ensures { (flags.new ≡ mode_set flags.old n new) ×
         (values.new ≡ output_set values.old n new) }
 {
-    let error = new.error;
-    let kept = new.kept;
-    let driven = new.driven;
     flags[MODE + n] = new.mode;
-    values[ERROR + n] = error;
-    values[KEPT + n] = kept;
-    values[DRIVEN + n] = driven;
+    values[ERROR + n] = new.error;
+    values[KEPT + n] = new.kept;
+    values[DRIVEN + n] = new.driven;
 }
 
 pub fn driven_at(values: &Values, n: usize) -> i16
@@ -226,12 +190,5 @@ pub fn set_driven(values: &mut Values, n: usize, driven: i16)
 pub fn set_modes(flags: &mut Flags)
     ensures { flags.new ≡ modes_set flags.old }
 {
-    flags[MODE] = true;
-    flags[MODE + 1] = true;
-    flags[MODE + 2] = true;
-    flags[MODE + 3] = true;
-    flags[MODE + 4] = true;
-    flags[MODE + 5] = true;
-    flags[MODE + 6] = true;
-    flags[MODE + 7] = true;
+    flags[MODE..].fill(true);
 }

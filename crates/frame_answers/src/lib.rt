@@ -1,14 +1,14 @@
 // The answer line of a request.
 #![tactic(auto)]
 
-ghost use Rattle.std.specs.Prelude.{cond};
+ghost use Rattle.std.specs.Prelude.{◌≡◌};
 ghost use Rattle.texts.specs.Texts.{Put};
-ghost use Rattle.frame_answers.specs.FrameAnswers.{buffer_text, refused_end, silent_end, abort_end, replied_end, reply_end, reply_line};
+ghost use Rattle.frame_answers.specs.FrameAnswers.{refused_end, silent_end, abort_end, replied_end, reply_end, reply_line};
 
-use answers::tables::put_meaning;
-use answers::{end_access, put_number};
+use answers::tables::meaning;
+use answers::{end_access, put_counted};
 use server_frames::requests::{aborts, code_in, index_in, sub_in};
-use texts::text::{put, put_all, put_bytes, put_decimal};
+use texts::text::{put, put_all};
 
 // A request, in a node that was stopped before it or not.
 pub fn put_reply(
@@ -21,10 +21,11 @@ pub fn put_reply(
 ) -> usize
     ensures { Put (reply_line number reply.now count stopped) out.old at out.new result }
 {
-    let next = put_buffer(out, at, number, b" reply", reply, count);
+    let next = put_counted(out, at, number, b" reply", reply, count);
     end_reply(out, next, number, reply, count, stopped)
 }
 
+#[tactic(auto, unfolding(crate::specs::FrameAnswers::reply_end))]
 fn end_reply(
     out: &mut [u8],
     at: usize,
@@ -36,33 +37,35 @@ fn end_reply(
     ensures { Put (reply_end number reply.now count stopped) out.old at out.new result }
 {
     if number != 0 {
-        return end_refused(out, at, number);
+        return put_all(out, at, refused_end(number));
     }
     if count == 0 {
-        return end_silent(out, at, stopped);
+        return put_all(out, at, silent_end(stopped));
     }
     end_replied(out, at, reply)
 }
 
 // The numbers of a request's two refusals mean other things elsewhere.
-fn end_refused(out: &mut [u8], at: usize, number: u32) -> usize
-    ensures { Put (refused_end number) out.old at out.new result }
+#[tactic(auto, unfolding(crate::specs::FrameAnswers::refused_end))]
+fn refused_end(number: u32) -> &'static [u8]
+    ensures { result.now ≡ refused_end number }
 {
-    let request = b" (request not 8 bytes)\n";
-    put_either(
-        out,
-        at,
-        number == 7,
-        request,
-        b" (reply buffer not 8 bytes)\n",
-    )
+    if number == 7 {
+        b" (request not 8 bytes)\n"
+    } else {
+        b" (reply buffer not 8 bytes)\n"
+    }
 }
 
-fn end_silent(out: &mut [u8], at: usize, stopped: bool) -> usize
-    ensures { Put (silent_end stopped) out.old at out.new result }
+#[tactic(auto, unfolding(crate::specs::FrameAnswers::silent_end))]
+fn silent_end(stopped: bool) -> &'static [u8]
+    ensures { result.now ≡ silent_end stopped }
 {
-    let stopped_node = b" (node stopped, no reply)\n";
-    put_either(out, at, stopped, stopped_node, b" (abort, no reply)\n")
+    if stopped {
+        b" (node stopped, no reply)\n"
+    } else {
+        b" (abort, no reply)\n"
+    }
 }
 
 // A reply is read back: what its abort means, or what its entry is a window on.
@@ -82,34 +85,6 @@ fn end_abort(out: &mut [u8], at: usize, code: u32) -> usize
     ensures { Put (abort_end code) out.old at out.new result }
 {
     let first = put_all(out, at, b" (abort: ");
-    let last = put_meaning(out, first, code);
+    let last = put_all(out, first, meaning(code));
     put_all(out, last, b")\n")
-}
-
-// A number, a word, a buffer as the call left it, and a count.
-fn put_buffer(
-    out: &mut [u8],
-    at: usize,
-    number: u32,
-    word: &[u8],
-    buffer: &[u8],
-    count: usize,
-) -> usize
-    ensures { Put (buffer_text number word.now buffer.now count)
-        out.old at out.new result }
-{
-    let first = put_number(out, at, number);
-    let second = put_all(out, first, word);
-    let third = put_bytes(out, second, buffer);
-    let fourth = put_all(out, third, b" / ");
-    put_decimal(out, fourth, count as u64)
-}
-
-fn put_either(out: &mut [u8], at: usize, first: bool, one: &[u8], other: &[u8]) -> usize
-    ensures { Put (cond first one.now other.now) out.old at out.new result }
-{
-    if first {
-        return put_all(out, at, one);
-    }
-    put_all(out, at, other)
 }

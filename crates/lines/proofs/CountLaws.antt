@@ -3,11 +3,10 @@
 use mathlib.Core.Path.{◌≡◌, refl, sym, ap, ap₂, ◌∙◌}
 use mathlib.Core.Bool.{Bool, true, false, cond, ◌&&◌, ◌||◌}
 use mathlib.Core.List.{List}
-use Prim.Native.Nat.{ℕ, zero, suc, ◌+◌, ◌-◌, ◌*◌, ◌/◌, ◌%◌, ◌^◌, ◌≤◌, ◌<◌}
+use Prim.Native.Nat.{ℕ, zero, suc, ◌+◌, ◌-◌, ◌*◌, ◌/◌, ◌%◌, ◌^◌, ◌<◌}
 use native.Mathlib.Nat.{pow-suc}
 use native.Mathlib.Omega.{arith}
 use lib.Dec.{eqb, ltb, leb}
-use lib.ListN.{length}
 use borrow.Author.Tests.{le-leb, lt-leb, leb-true, leb-false, lt-ltb, le-ltb, ltb-true, ltb-false, eqb-true, eqb-false}
 use Rattle.profile.specs.Bits.{bit_at, bit, flip, gather}
 use Rattle.profile.proofs.BitLaws.{bit_zero, bit_below, gather_bit, gather_bits, gather_small}
@@ -68,18 +67,16 @@ abbrev count_bit : List ℕ → ℕ → ℕ → Bool
 count_bit words i b = line_at words (12 + b) i
 
 pub record Comparing (words : List ℕ) (least : ℕ) (r : Row) (b : ℕ) : Type 0 where
-  pub upto : b ≤ 8
   pub at : (i : ℕ) → i < 128 → row_at r i ≡ leb (gather b (bit_at least)) (gather b (count_bit words i))
 
 pub comparing_none : {words : List ℕ} {least : ℕ} → Comparing words least every 0
-comparing_none = record { upto = omega arith; at = λ i h. every_line i }
+comparing_none = record { at = λ i h. every_line i }
 
-pub comparing_more : {words : List ℕ} {least b : ℕ} {r bits r' : Row} → Comparing words least r b → b < 8 → RowOf words (12 + b) bits
+pub comparing_more : {words : List ℕ} {least b : ℕ} {r bits r' : Row} → Comparing words least r b → RowOf words (12 + b) bits
     → Compared bits (eqb (least / 2 ^ b % 2) 1) r r' → Comparing words least r' (b + 1)
 unfolding bit_at
-comparing_more {words} {least} {b} c h o k =
+comparing_more {words} {least} {b} c o k =
     record {
-      upto = omega arith;
       at = λ i l.
           k.at i
           ∙ ap₂ (λ (f x : Bool). cond (bit_at least b) (f && x) (f || x)) (o.at i l) (c.at i l)
@@ -92,10 +89,9 @@ one_higher : (n c : ℕ) (t : Bool) → leb n (c + 1) ≡ t → leb (n - 1) c �
 one_higher n c true e = le-leb (n - 1) c (omega (arith, leb-true n (c + 1) e))
 one_higher n c false e = lt-leb (n - 1) c (omega (arith, leb-false n (c + 1) e))
 
-pub comparing_all : {words : List ℕ} {samples least b : ℕ} {r : Row} → samples < 256 → least ≡ samples - 1 → 8 ≤ b
+pub comparing_all : {words : List ℕ} {samples least b : ℕ} {r : Row} → samples < 256 → least ≡ samples - 1 → b ≡ 8
     → Comparing words least r b → Reached words samples r
-comparing_all {words} {samples} {least} {b} {r} small e h c =
-    let end : b ≡ 8 = omega (arith, c.upto) in
+comparing_all {words} {samples} {least} {b} {r} small e end c =
     record {
       at = λ i l.
           c.at i l
@@ -106,20 +102,10 @@ comparing_all {words} {samples} {least} {b} {r} small e h c =
 
 -- ---- the counts stored, row by row: the rows below 12 + b are as they will be
 
-pub record Counting (words₀ : List ℕ) (counts : Row) (words : List ℕ) (b : ℕ) : Type 0 where
-  pub upto : b ≤ 8
-  pub count : length words ≡ 40
-  pub lines : (a i : ℕ) → a < 20 → i < 128 → line_at words a i ≡ cond (ltb a (12 + b)) (counted_at words₀ counts a i) (line_at words₀ a i)
+abbrev pub counting : List ℕ → Row → ℕ → ℕ → ℕ → Bool
+counting words₀ counts b a i = cond (ltb a (12 + b)) (counted_at words₀ counts a i) (line_at words₀ a i)
 
 module _ (words₀ : List ℕ) (counts : Row) where
-  none_by : (a i : ℕ) (t : Bool) → ltb a 12 ≡ t → line_at words₀ a i ≡ cond t (counted_at words₀ counts a i) (line_at words₀ a i)
-  none_by a i true e =
-      ap (λ (t : Bool). cond t (line_at words₀ a i) (bit_at (cond (row_at counts i) (count_at words₀ i + 1) 0) (a - 12))) (sym e)
-  none_by a i false e = refl
-
-  pub counting_none : length words₀ ≡ 40 → Counting words₀ counts words₀ 0
-  counting_none len = record { upto = omega arith; count = len; lines = λ a i ha hi. none_by a i (ltb a 12) refl }
-
   module _ (b : ℕ) (new : Row) (h : b < 8) (is : (i : ℕ) → i < 128 → row_at new i ≡ counted_at words₀ counts (12 + b) i) where
     more_by : (a i : ℕ) (t u v : Bool) → eqb a (12 + b) ≡ t → ltb a (12 + b) ≡ u → ltb a (12 + (b + 1)) ≡ v → i < 128
         → cond t (row_at new i) (cond u (counted_at words₀ counts a i) (line_at words₀ a i))
@@ -133,30 +119,19 @@ module _ (words₀ : List ℕ) (counts : Row) where
         absurd (eqb-false a (12 + b) et (omega (arith, ltb-false a (12 + b) eu, ltb-true a (12 + (b + 1)) ev)))
     more_by a i false false false et eu ev hi = refl
 
-    pub counting_more : {words out : List ℕ} → Counting words₀ counts words b → Lined out (row_set words (12 + b) new)
-        → Counting words₀ counts out (b + 1)
+    pub counting_more : {words out : List ℕ} → Lined words (counting words₀ counts b) → Lined out (row_set words (12 + b) new)
+        → Lined out (counting words₀ counts (b + 1))
     unfolding row_set
     counting_more c o =
         record {
-          upto = omega arith;
           count = o.count;
           lines = λ a i ha hi.
               o.lines a i ha hi ∙ ap (cond (eqb a (12 + b)) (row_at new i)) (c.lines a i ha hi)
               ∙ more_by a i (eqb a (12 + b)) (ltb a (12 + b)) (ltb a (12 + (b + 1))) refl refl refl hi;
         }
 
-module _ {words₀ : List ℕ} {counts : Row} where
-  pub counting_all : {words : List ℕ} {b : ℕ} → 8 ≤ b → Counting words₀ counts words b → Lined words (counted_at words₀ counts)
-  counting_all {words} {b} h c =
-      record {
-        count = c.count;
-        lines = λ a i ha hi.
-            c.lines a i ha hi
-            ∙ ap (λ (t : Bool). cond t (counted_at words₀ counts a i) (line_at words₀ a i)) (lt-ltb a (12 + b) (omega arith));
-      }
-
   -- the row that is still to be stored is as it was
-  pub counting_row : {words : List ℕ} {b : ℕ} {bits : Row} → b < 8 → Counting words₀ counts words b → RowOf words (12 + b) bits
+  pub counting_row : {words : List ℕ} {b : ℕ} {bits : Row} → b < 8 → Lined words (counting words₀ counts b) → RowOf words (12 + b) bits
       → (i : ℕ) → i < 128 → row_at bits i ≡ count_bit words₀ i b
   counting_row {words} {b} {bits} h c o i l =
       o.at i l ∙ c.lines (12 + b) i (omega arith) l
@@ -166,13 +141,6 @@ module _ {words₀ : List ℕ} {counts : Row} where
 
 pub record Carried (words₀ : List ℕ) (counts carry : Row) (b : ℕ) : Type 0 where
   pub at : (i : ℕ) → i < 128 → row_at carry i ≡ row_at counts i && full b (count_bit words₀ i)
-
-pub carried_none : {words₀ : List ℕ} {counts : Row} → Carried words₀ counts counts 0
-carried_none {words₀} {counts} = record { at = λ i h. all (row_at counts i) }
-  where
-    all : (t : Bool) → t ≡ t && true
-    all true = refl
-    all false = refl
 
 -- row 12 + b of the counts
 count_row : (words : List ℕ) (counts : Row) (i b : ℕ) (t : Bool) → row_at counts i ≡ t → b < 8

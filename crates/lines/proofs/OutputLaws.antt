@@ -1,7 +1,7 @@
 -- The output machine: writes of rows 6 and 7, fault that begins or ends, and what is driven.
 -- Assumes nothing.
 use mathlib.Core.Path.{◌≡◌, refl, sym, ap, ap₂, ◌∙◌}
-use mathlib.Core.Bool.{Bool, true, false, not, cond, ◌&&◌, beq, false≢true}
+use mathlib.Core.Bool.{Bool, true, false, cond, ◌&&◌, beq, false≢true}
 use mathlib.Core.List.{List}
 use Prim.Native.Nat.{ℕ, ◌<◌}
 use native.Mathlib.Omega.{arith}
@@ -153,13 +153,6 @@ unmoved false false words e = record { inputs = λ i h. refl; outputs = λ i h. 
 unmoved true false words e = absurd (false≢true e)
 unmoved false true words e = absurd (false≢true e)
 
--- or it does not
-other : (before after : Bool) → beq before after ≡ false → after ≡ not before
-other true false e = refl
-other false true e = refl
-other true true e = absurd (false≢true (sym e))
-other false false e = absurd (false≢true (sym e))
-
 drives_by : (words : List ℕ) (a i : ℕ) (t m x : Bool) → eqb a 11 ≡ t
     → cond t (cond m x (line_at words 11 i)) (line_at words a i) ≡ cond (t && m) x (line_at words a i)
 drives_by words a i true m x e = ap (λ (r : ℕ). cond m x (line_at words r i)) (sym (eqb-true a 11 e))
@@ -189,12 +182,12 @@ module _ (words : List ℕ) {out : List ℕ} (mask source polarity : Row) (o : L
   unfolding output_at
   driven_set = output_of_lem out i (λ a. driven_at words mask source polarity a i) (λ a ha. o.lines a i ha h)
 
-module _ {before after : Bool} (ne : beq before after ≡ false) {words out : List ℕ} where
-  pub fault_begins : before ≡ false → (mode value : Row) → RowOf words 8 mode → RowOf words 9 value
+module _ {before after : Bool} {words out : List ℕ} where
+  pub fault_begins : before ≡ false → after ≡ true → {mode value : Row} → RowOf words 8 mode → RowOf words 9 value
       → Lined out (driven_at words mode value none) → Moved before after words out
   unfolding output_at move_output_line
-  fault_begins b mode value hm hv o =
-      rw (other before after ne, b)
+  fault_begins b a {mode} {value} hm hv o =
+      rw (b, a)
       (record {
         inputs = inputs_kept words mode value none o;
         outputs = λ i h.
@@ -202,11 +195,11 @@ module _ {before after : Bool} (ne : beq before after ≡ false) {words out : Li
             ∙ ap (λ (d : Bool). with_driven d (output_at words i)) (rw (no_line i, hm.at i h, hv.at i h));
       })
 
-  pub fault_ends : before ≡ true → (kept polarity : Row) → RowOf words 6 kept → RowOf words 7 polarity
+  pub fault_ends : before ≡ true → after ≡ false → {kept polarity : Row} → RowOf words 6 kept → RowOf words 7 polarity
       → Lined out (driven_at words every kept polarity) → Moved before after words out
   unfolding output_at move_output_line
-  fault_ends b kept polarity hk hp o =
-      rw (other before after ne, b)
+  fault_ends b a {kept} {polarity} hk hp o =
+      rw (b, a)
       (record {
         inputs = inputs_kept words every kept polarity o;
         outputs = λ i h.

@@ -32,22 +32,15 @@ const OUTPUT_MASK: usize = 10;
 
 const DRIVEN: usize = 11;
 
-const ONES: u64 = 0xffff_ffff_ffff_ffff;
-
 // Every line with its defaults: any change, error mode and output filter mask are 1, all else is 0.
 pub fn fresh(words: &mut Words)
-    requires { length words.old ≡ 40 }
     ensures { Fresh words.new }
 {
-    let all = Row {
-        low: ONES,
-        high: ONES,
-    };
     // In two parts with other stores between them: one fill of more than 256 bytes is compiled to a call of memset.
     clear_rows(words, SETTLED, COUNT);
-    set_row(words, ANY_CHANGE, all);
-    set_row(words, ERROR_MODE, all);
-    set_row(words, OUTPUT_MASK, all);
+    set_row(words, ANY_CHANGE, Row::ALL);
+    set_row(words, ERROR_MODE, Row::ALL);
+    set_row(words, OUTPUT_MASK, Row::ALL);
     clear_counts(words);
 }
 
@@ -65,27 +58,21 @@ pub fn read(words: &Words, row: usize, width: usize, sub: usize) -> u32
 
 // Outside fault the driven lines follow what is written to the outputs or their polarity.
 pub fn write(words: &mut Words, row: usize, width: usize, sub: usize, value: u32, fault: bool)
-    requires words_len { length words.old ≡ 40 }
     requires covers { Covers row width sub }
     requires le_row { 1 ≤ row }
     requires row_bound { row < 11 }
     requires value_bound { value < 2 ^ width }
     ensures { Written fault words.old row width sub value words.new }
 {
-    if row == OUTPUT {
-        write_output_lines(words, width, sub, value, fault);
-        return;
+    match row {
+        OUTPUT => write_output_lines(words, width, sub, value, fault),
+        OUTPUT_POLARITY => write_output_polarity(words, width, sub, value, fault),
+        _ => put(words, row, width, sub, value),
     }
-    if row == OUTPUT_POLARITY {
-        write_output_polarity(words, width, sub, value, fault);
-        return;
-    }
-    put(words, row, width, sub, value);
 }
 
 // Only outputs whose filter mask is 1 take the value.
 fn write_output_lines(words: &mut Words, width: usize, sub: usize, value: u32, fault: bool)
-    requires words_len { length words.old ≡ 40 }
     requires covers { Covers 6 width sub }
     requires value_bound { value < 2 ^ width }
     ensures { Written fault words.old 6 width sub value words.new }
@@ -100,7 +87,6 @@ fn write_output_lines(words: &mut Words, width: usize, sub: usize, value: u32, f
 
 // Outputs that are driven invert with their polarity.
 fn write_output_polarity(words: &mut Words, width: usize, sub: usize, value: u32, fault: bool)
-    requires words_len { length words.old ≡ 40 }
     requires covers { Covers 7 width sub }
     requires value_bound { value < 2 ^ width }
     ensures { Written fault words.old 7 width sub value words.new }
@@ -115,7 +101,6 @@ fn write_output_polarity(words: &mut Words, width: usize, sub: usize, value: u32
 
 // One sample of every input line by the filter length, which is `samples`, and the edges that it makes.
 pub fn sample(words: &mut Words, new: Row, samples: u8) -> Row
-    requires { length words.old ≡ 40 }
     ensures { Sampled words.old samples new result words.new }
 {
     let before = row(words, SETTLED);
@@ -125,62 +110,55 @@ pub fn sample(words: &mut Words, new: Row, samples: u8) -> Row
     let any = row(words, ANY_CHANGE);
     settle(words, new, samples);
     let after = row(words, SETTLED);
-    let changed = before.xor(after);
-    let reads = after.xor(polarity);
+    let changed = before ^ after;
+    let reads = after ^ polarity;
     let direction = reads.pick(rises, falls);
-    changed.and(any.or(direction))
+    changed & (any | direction)
 }
 
 // The settled bits and the counts after a sample. A line takes the sample and its count becomes 0, unless it differs under its filter
 // and its count, one higher, stays below the length: then the count rises.
 fn settle(words: &mut Words, new: Row, samples: u8)
-    requires { length words.old ≡ 40 }
     ensures { Lined words.new (settled_at words.old samples new) }
 {
-    let differs = new.xor(row(words, SETTLED));
-    let waits = differs.and(row(words, FILTER));
+    let differs = new ^ row(words, SETTLED);
+    let waits = differs & row(words, FILTER);
     if waits.is_empty() {
         set_row(words, SETTLED, new);
         clear_counts(words);
         return;
     }
-    let settles = waits.and(reached(words, samples));
-    let counts = waits.xor(settles);
-    set_row(words, SETTLED, new.xor(counts));
+    let settles = waits & reached(words, samples);
+    let counts = waits ^ settles;
+    set_row(words, SETTLED, new ^ counts);
     count_on(words, counts);
 }
 
 // Fault begins: the error value, polarity not applied, is driven where error mode is 1. Fault ends: all outputs are driven again.
 pub fn move_outputs(words: &mut Words, before: bool, after: bool)
-    requires { length words.old ≡ 40 }
     ensures { Moved before after words.old words.new }
 {
-    let all = Row {
-        low: ONES,
-        high: ONES,
-    };
-    let none = Row { low: 0, high: 0 };
-    if before == after {
-        return;
+    match (before, after) {
+        (false, true) => {
+            let mode = row(words, ERROR_MODE);
+            let value = row(words, ERROR_VALUE);
+            drive_row(words, mode, value, Row::NONE);
+        }
+        (true, false) => {
+            let kept = row(words, OUTPUT);
+            let polarity = row(words, OUTPUT_POLARITY);
+            drive_row(words, Row::ALL, kept, polarity);
+        }
+        _ => {}
     }
-    let polarity = row(words, OUTPUT_POLARITY);
-    if before {
-        let kept = row(words, OUTPUT);
-        drive_row(words, all, kept, polarity);
-        return;
-    }
-    let mode = row(words, ERROR_MODE);
-    let value = row(words, ERROR_VALUE);
-    drive_row(words, mode, value, none);
 }
 
 // Where the mask is 1 the driven lines become the source, inverted where polarity is 1.
 fn drive_row(words: &mut Words, mask: Row, source: Row, polarity: Row)
-    requires { length words.old ≡ 40 }
     ensures { Lined words.new (driven_at words.old mask source polarity) }
 {
     let driven = row(words, DRIVEN);
-    set_row(words, DRIVEN, mask.pick(source.xor(polarity), driven));
+    set_row(words, DRIVEN, mask.pick(source ^ polarity, driven));
 }
 
 // The driven lines as sixteen bytes.

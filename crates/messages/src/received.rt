@@ -7,17 +7,18 @@ ghost use Rattle.profile.specs.Replies.{plain};
 ghost use Rattle.store.specs.Promises.{Ensured};
 ghost use Rattle.messages.specs.View.{Heard, entry_writes, long_writes};
 
+use crate::conditions::is_active;
 use mappings::{entries_at, in_force, index_of, moved, received, sub_of, total};
-use nodes::is_operational;
 use objects::write;
 use profile::Message;
 use store::Store;
 
 // A frame shorter than its mapping, or for a node not operational, does nothing.
+#[tactic(auto, unfolding(profile::specs::Replies::reply, profile::specs::Heard::number_of, profile::specs::Replies::answer_to))]
 pub fn receive(store: &mut Store, message: Message, frame: &[u8])
     ensures { Ensured store.old (Call.receive message frame.now) (plain 0) store.new }
 {
-    if !is_operational(store.node()) {
+    if !is_active(store) {
         return;
     }
     let m = received(message);
@@ -49,6 +50,7 @@ fn write_each(store: &mut Store, m: usize, entries: &[u32], frame: &[u8])
 }
 
 // An entry that moves nothing has no data and is not written; the others are accepted, as `frame_accepted` says.
+#[tactic(auto, using(profile::proofs::MappedLaws::moves_none, profile::proofs::MappedLaws::moved_moves))]
 fn write_entry(store: &mut Store, m: usize, entry: u32, bytes: &[u8])
     requires { length bytes.now ≡ mapped.moved m entry }
     ensures { Heard store.old (entry_writes m entry bytes.now) store.new }

@@ -8,22 +8,23 @@ ghost use Rattle.profile.specs.Calls.{Call};
 ghost use Rattle.store.specs.Promises.{Ensured, Readable};
 ghost use Rattle.messages.specs.View.{Shown, EntryPut, Filled, Sent};
 
+use crate::conditions::is_active;
 use channels::fields::last_at;
 use dictionary::entries::find;
 use dictionary::refusals::check_transmit;
 use lines::machines;
 use mappings::{entries_at, in_force, index_of, moved, sub_of, total, transmitted};
-use nodes::is_operational;
 use profile::refusals::Refusal;
 use profile::{Home, Message};
 use store::Store;
 
 // The answer is how many bytes were written: none unless operational.
+#[tactic(auto, using(profile::proofs::AnswerLaws::not_accepted), unfolding(profile::specs::Refusals::transmit_refusal, profile::specs::Replies::reply, profile::specs::Heard::number_of, profile::specs::Replies::answer_to, profile::specs::Replies::refuse_to))]
 pub fn transmit(store: &Store, message: Message, frame: &mut [u8]) -> Result<usize, Refusal>
     ensures { Ensured store.now (Call.transmit message frame.old) (buffer_answer result frame.new) store.now }
 {
     check_transmit(frame.len())?;
-    if !is_operational(store.node()) {
+    if !is_active(store) {
         return Ok(0);
     }
     let m = transmitted(message);
@@ -57,6 +58,7 @@ fn put_each(store: &Store, m: usize, entries: &[u32], rest: &mut [u8])
     }
 }
 
+#[tactic(auto, using(store::proofs::EntryLaws::entry_readable, profile::proofs::MappedLaws::moving), unfolding(profile::specs::MappedEntries::moved))]
 fn put_entry(store: &Store, entry: u32, size: usize, rest: &mut [u8])
     requires { size ≤ length rest.old }
     ensures { EntryPut store.now entry size rest.old rest.new }
@@ -67,6 +69,7 @@ fn put_entry(store: &Store, entry: u32, size: usize, rest: &mut [u8])
 }
 
 // What a read answers of an entry that a transmit mapping takes.
+#[tactic(auto, using(profile::proofs::MappedLaws::input_index), unfolding(profile::specs::Replies::read_value, profile::specs::AnalogueInput::read_analogue_input))]
 fn shown(store: &Store, home: Home) -> u32
     requires { Readable home }
     ensures { Shown store.now home result }

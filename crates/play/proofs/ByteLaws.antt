@@ -78,7 +78,7 @@ both_written t u out left at last p b d l h = p.written (omega (arith, length-ap
 
 -- the session as the code begins a line
 abbrev begins : Session → ℕ → Session
-begins s n = beside s n s.met s.unmet 0 s.answer s.at s.ended s.failed
+begins s n = beside s n s.met s.unmet 0 s.answer s.at s.progress
 
 pub line_played : (before between after : Session) (n : ℕ) (held front text answer out answer' left : List ℕ)
     → n ≡ counted true before.lines → front ≡ take before.length held → text ≡ without_mark n front

@@ -84,10 +84,10 @@ module _ (before : Session) (from : ℕ) (answer out front text : List ℕ) (f :
 
 -- a session that compared
 abbrev with_met : Session → ℕ → Session
-with_met s n = beside s s.lines n s.unmet s.length s.answer s.at s.ended s.failed
+with_met s n = beside s s.lines n s.unmet s.length s.answer s.at s.progress
 
 abbrev with_unmet : Session → ℕ → ℕ → Session
-with_unmet s n at = beside s s.lines s.met n s.length s.answer at s.ended s.failed
+with_unmet s n at = beside s s.lines s.met n s.length s.answer at s.progress
 
 -- a call, or a line that is none: its answer is held
 pub answered_call : (before played after : Session) (m : Meaning) (answer out answer' left : List ℕ)
@@ -116,8 +116,7 @@ answered_call before played after m answer out answer' left p r h =
       unmet = ap (λ (s : Session). s.unmet) r.same ∙ q.aside.unmet;
       lines = ap (λ (s : Session). s.lines) r.same ∙ q.aside.lines;
       length = ap (λ (s : Session). s.length) r.same ∙ q.aside.length;
-      ended = ap (λ (s : Session). s.ended) r.same ∙ q.aside.ended;
-      failed = ap (λ (s : Session). s.failed) r.same ∙ q.aside.failed;
+      progress = ap (λ (s : Session). s.progress) r.same ∙ q.aside.progress;
     }
 
 -- a line that is too long, and one that is not
@@ -177,8 +176,7 @@ module _ (before : Session) (text answer out : List ℕ) where
         unmet = rw first p.aside.unmet;
         lines = p.aside.lines;
         length = p.aside.length;
-        ended = p.aside.ended;
-        failed = p.aside.failed;
+        progress = p.aside.progress;
       }
 
   module _ (some : length (last_of before answer) ≡ 0 → ⊥) where
@@ -202,8 +200,7 @@ module _ (before : Session) (text answer out : List ℕ) where
           unmet = rw (other, e) refl;
           lines = refl;
           length = refl;
-          ended = refl;
-          failed = refl;
+          progress = refl;
         }
 
     -- it did not come
@@ -225,6 +222,5 @@ module _ (before : Session) (text answer out : List ℕ) where
           unmet = rw (other, e) c;
           lines = refl;
           length = refl;
-          ended = refl;
-          failed = refl;
+          progress = refl;
         }

@@ -46,7 +46,7 @@ pub fits_as : (m : Meaning) (r s : Said) {payload bytes : List ℕ} {numbers : L
 fits_as m r s w e = subst (λ (x : Said). Fitting x) e w.fits
 
 pub same_aside : (s : Session) → Aside s s
-same_aside s = record { lines = refl; length = refl; answer = refl; met = refl; unmet = refl; ended = refl; failed = refl }
+same_aside s = record { lines = refl; length = refl; answer = refl; met = refl; unmet = refl; progress = refl }
 
 pub not_played : (before : Session) (out : List ℕ) → Played before nothing out before out
 not_played before out = record {

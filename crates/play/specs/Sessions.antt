@@ -8,6 +8,8 @@ use Rattle.device.specs.declared.Device.{Device}
 use Rattle.device.specs.View.{machines_of}
 use Rattle.texts.specs.Texts.{Put}
 use Rattle.notation.specs.Meanings.{Meaning}
+use Rattle.play.specs.declared.session.Progress.{Progress}
+use Rattle.play.specs.declared.session.Progress.TheVariants.{Reading}
 use Rattle.play.specs.declared.session.Session.{Session}
 use Rattle.play.specs.Playing.{answer_for, machines_for, is_call, is_refused, is_unknown, Line, without_mark, line_of, line_answer, newer}
 use Rattle.play.specs.Playing.{last_after, machines_after, counts_as_call, counts_as_refused, counts_as_unknown, counts_as_met, counts_as_unmet}
@@ -35,8 +37,7 @@ pub record Started (s : Session) : Type 0 where
   pub length : s.length ≡ 0
   pub answer : s.answer ≡ 0
   pub at : s.at ≡ 0
-  pub ended : s.ended ≡ false
-  pub failed : s.failed ≡ false
+  pub progress : s.progress ≡ Reading
 
 -- the line that is read, what is expected and how it ended stay
 pub record Aside (before after : Session) : Type 0 where
@@ -45,8 +46,7 @@ pub record Aside (before after : Session) : Type 0 where
   pub answer : after.answer ≡ before.answer
   pub met : after.met ≡ before.met
   pub unmet : after.unmet ≡ before.unmet
-  pub ended : after.ended ≡ before.ended
-  pub failed : after.failed ≡ before.failed
+  pub progress : after.progress ≡ before.progress
 
 -- a call was counted: the device, the call's number and the place in the output are those given
 pub record Counted (before : Session) (d : Device) (number place : ℕ) (after : Session) : Type 0 where
@@ -80,8 +80,8 @@ pub record PlayedWhole (before : Session) (m : Meaning) (out : List ℕ) (after 
 -- ---- a line
 
 -- the session with the same device and calls, and all else as given
-abbrev pub beside : Session → ℕ → ℕ → ℕ → ℕ → ℕ → ℕ → Bool → Bool → Session
-beside s lines met unmet length answer at ended failed = record {
+abbrev pub beside : Session → ℕ → ℕ → ℕ → ℕ → ℕ → ℕ → Progress → Session
+beside s lines met unmet length answer at progress = record {
   device = s.device;
   calls = s.calls;
   refused = s.refused;
@@ -92,8 +92,7 @@ beside s lines met unmet length answer at ended failed = record {
   length = length;
   answer = answer;
   at = at;
-  ended = ended;
-  failed = failed;
+  progress = progress;
 }
 
 -- the last answer line is held in front of an array
@@ -102,7 +101,7 @@ last_of s answer = take s.answer answer
 
 -- the session with another count of held bytes of an answer
 abbrev pub of_answer : Session → ℕ → Session
-of_answer s n = beside s s.lines s.met s.unmet s.length n s.at s.ended s.failed
+of_answer s n = beside s s.lines s.met s.unmet s.length n s.at s.progress
 
 -- what was put into the block from a place on is held, if it is any, and nothing else changed
 pub record Remembered (before : Session) (from : ℕ) (answer out : List ℕ) (after : Session) (answer' : List ℕ) : Type 0 where
@@ -124,8 +123,7 @@ pub record Answered (before : Session) (l : Line) (answer out : List ℕ) (after
   pub unmet : after.unmet ≡ counted (counts_as_unmet (last_of before answer) l) before.unmet
   pub lines : after.lines ≡ before.lines
   pub length : after.length ≡ before.length
-  pub ended : after.ended ≡ before.ended
-  pub failed : after.failed ≡ before.failed
+  pub progress : after.progress ≡ before.progress
 
 -- the place in the output once it was written out where the longest answer had no room any more
 abbrev pub emptied : ℕ → ℕ
@@ -146,7 +144,7 @@ pub record WrittenOut (place : ℕ) (before after : Session) : Type 0 where
 
 -- a line begins: it is the next one, and no byte of the one after it is held
 abbrev pub begun : Session → Session
-begun s = beside s (counted true s.lines) s.met s.unmet 0 s.answer s.at s.ended s.failed
+begun s = beside s (counted true s.lines) s.met s.unmet 0 s.answer s.at s.progress
 
 -- the line that is held: its bytes in front of an array
 abbrev pub held_line : Session → List ℕ → Line
@@ -173,7 +171,7 @@ longer n = cond (nat_lt n 1028) (n + 1) n
 
 -- the session with a line of another length
 abbrev pub of_length : Session → ℕ → Session
-of_length s n = beside s s.lines s.met s.unmet n s.answer s.at s.ended s.failed
+of_length s n = beside s s.lines s.met s.unmet n s.answer s.at s.progress
 
 -- one byte of a list: a newline ends the line, and any other is held
 abbrev pub Took : Bool → Session → ℕ → List ℕ → List ℕ → List ℕ → Session → List ℕ → List ℕ → List ℕ → Type 0
@@ -191,5 +189,5 @@ PlayedLast false before held answer out after answer' left = LinePlayed before (
 -- ---- the end
 
 -- the session ended: its input is over, or it failed
-abbrev pub ended_as : Session → Bool → Session
-ended_as s failed = beside s s.lines s.met s.unmet s.length s.answer s.at true failed
+abbrev pub ended_as : Session → Progress → Session
+ended_as s progress = beside s s.lines s.met s.unmet s.length s.answer s.at progress

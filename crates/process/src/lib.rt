@@ -58,5 +58,5 @@ pub fn drive(store: &Store, lines: &mut [u8], channels: &mut [i16]) -> Result<()
 fn reported(edges: Row, on: bool) -> Row
     ensures { Reported on edges result }
 {
-    if on { edges } else { Row { low: 0, high: 0 } }
+    if on { edges } else { Row::NONE }
 }

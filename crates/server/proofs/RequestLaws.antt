@@ -19,7 +19,8 @@ use Rattle.profile.proofs.RefusalLaws.{none_holds}
 use Rattle.profile.proofs.ReplyLaws.{reply_number}
 use Rattle.profile.proofs.ReadLaws.{read_sized}
 use Rattle.profile.proofs.ServerLaws.{unknown_asks, served_reply, served_machines, no_other_change}
-use Rattle.store.specs.View.{node_at, Store, machines_of}
+use Rattle.store.specs.declared.Store.{Store}
+use Rattle.store.specs.View.{node_at, machines_of}
 use Rattle.store.specs.Promises.{Ensured}
 use Rattle.store.proofs.KeepLaws.{left_alone, taken}
 use Rattle.server.specs.View.{Done}

@@ -1,23 +1,12 @@
 -- The layout of eight bytes, read and written a byte at a time.
 -- Assumes nothing.
-use mathlib.Core.Path.{◌≡◌, refl, ap, ◌∙◌, sym}
-use mathlib.Core.Bool.{Bool, true, false, cond}
+use mathlib.Core.Path.{◌≡◌, refl, ap, ◌∙◌}
 use mathlib.Core.List.{List, [], ◌∷◌, ◌++◌}
-use Prim.Native.Nat.{ℕ, zero, suc, ◌+◌, ◌*◌, ◌/◌, ◌%◌, ◌^◌, ◌≤◌}
+use Prim.Native.Nat.{ℕ, zero, suc, ◌/◌, ◌%◌, ◌^◌, ◌≤◌}
 use native.Mathlib.Omega.{arith}
 use lib.ListN.{length, get_or, take, drop}
-use Rattle.profile.specs.Entries.{Entry}
-use Rattle.profile.specs.Entries.{entry_of}
-use Rattle.profile.specs.Server.{tells_size, told_size, first_of, index_in, sub_in, size_in, reply_data, reply_frame}
-use Rattle.profile.proofs.SizeLaws.{entry_sized}
+use Rattle.profile.specs.Server.{reply_data, reply_frame}
 use Rattle.server_frames.specs.Layout.{headed, filled}
-
--- the second and the third byte
-pub index_bytes : (f : List ℕ) → length f ≡ 8 → index_in f ≡ get_or f 1 0 + 256 * get_or f 2 0
-index_bytes [] h = absurd (omega (arith, h))
-index_bytes (a ∷ []) h = absurd (omega (arith, h))
-index_bytes (a ∷ b ∷ []) h = absurd (omega (arith, h))
-index_bytes (a ∷ b ∷ c ∷ f) h = omega arith
 
 -- four bytes, each by itself
 four : {a b c d p q r s : ℕ} → a ≡ p → b ≡ q → c ≡ r → d ≡ s → ◌≡◌ {A = List ℕ} (a ∷ b ∷ c ∷ d ∷ []) (p ∷ q ∷ r ∷ s ∷ [])
@@ -64,22 +53,3 @@ pub reply_stored : (first size v h : ℕ) (f l : List ℕ) → length f ≡ 8 �
 reply_stored first size v h f l p q s e =
     stored first h f l q
     ∙ (λ t. (first ∷ repeated f p t) ++ (ap digits e ∙ data_bytes size v s) t)
-
--- what so many bytes hold, where they are k
-pub low_bytes : (k v n r : ℕ) → n ≡ k → r ≡ v % 256 ^ k → r ≡ v % 256 ^ n
-low_bytes k v n r e h = h ∙ ap (λ (x : ℕ). v % 256 ^ x) (sym e)
-
--- ---- how many data bytes a download writes
-
--- by a first byte that tells its size
-pub size_told : (f : List ℕ) (r : ℕ) → tells_size (first_of f) ≡ true → r ≡ told_size (first_of f) → (r ≡ size_in f) × (r ≤ 4)
-size_told f r t e = (e ∙ ap (λ (b : Bool). cond b (told_size (first_of f)) (entry_of (index_in f) (sub_in f)).size) (sym t), omega (arith, e))
-
--- and by one that does not
-pub size_own : (f : List ℕ) (e : Entry) → tells_size (first_of f) ≡ false → e ≡ entry_of (index_in f) (sub_in f)
-    → (e.size ≡ size_in f) × (e.size ≤ 4)
-size_own f e t is =
-    let size = ap (λ (x : Entry). x.size) is in (
-      size ∙ ap (λ (b : Bool). cond b (told_size (first_of f)) (entry_of (index_in f) (sub_in f)).size) (sym t),
-      omega (arith, size, (entry_sized (index_in f) (sub_in f)).most),
-    )

@@ -5,18 +5,18 @@ ghost use Rattle.server_frames.specs.Layout.{headed, filled};
 
 use crate::first::first_byte;
 
-// A server's command specifiers.
-const UPLOADED: u8 = 2;
-
-const DOWNLOADED: u8 = 3;
-
-const ABORTED: u8 = 4;
+// What a server answers, by its command specifier.
+enum Answered {
+    Upload = 2,
+    Download = 3,
+    Abort = 4,
+}
 
 pub fn put_download(frame: &[u8], reply: &mut [u8])
     requires { (length frame.now ≡ 8) × (length reply.old ≡ 8) }
     ensures { reply.new ≡ download_reply frame.now }
 {
-    let first = first_byte(DOWNLOADED, 0, false, false);
+    let first = first_byte(Answered::Download as u8, 0, false, false);
     put_reply(frame, reply, first, 0, 0);
 }
 
@@ -25,7 +25,7 @@ pub fn put_upload(frame: &[u8], reply: &mut [u8], size: usize, value: u32)
     requires { (length frame.now ≡ 8) × (length reply.old ≡ 8) × (1 ≤ size) × (size ≤ 4) }
     ensures { reply.new ≡ upload_reply frame.now size value }
 {
-    let first = first_byte(UPLOADED, (4 - size) as u8, true, true);
+    let first = first_byte(Answered::Upload as u8, (4 - size) as u8, true, true);
     put_reply(frame, reply, first, size, value);
 }
 
@@ -33,7 +33,7 @@ pub fn put_abort(frame: &[u8], reply: &mut [u8], code: u32)
     requires { (length frame.now ≡ 8) × (length reply.old ≡ 8) }
     ensures { reply.new ≡ abort_reply frame.now code }
 {
-    let first = first_byte(ABORTED, 0, false, false);
+    let first = first_byte(Answered::Abort as u8, 0, false, false);
     put_reply(frame, reply, first, 4, code);
 }
 
@@ -51,19 +51,14 @@ fn put_head(frame: &[u8], reply: &mut [u8], first: u8)
     ensures { reply.new ≡ headed first frame.now reply.old }
 {
     reply[0] = first;
-    reply[1] = frame[1];
-    reply[2] = frame[2];
-    reply[3] = frame[3];
+    reply[1..4].copy_from_slice(&frame[1..4]);
 }
 
 fn put_data(reply: &mut [u8], held: u32)
     requires { length reply.old ≡ 8 }
     ensures { reply.new ≡ filled held reply.old }
 {
-    reply[4] = (held % 256) as u8;
-    reply[5] = (held / 256 % 256) as u8;
-    reply[6] = (held / 65_536 % 256) as u8;
-    reply[7] = (held / 16_777_216) as u8;
+    reply[4..8].copy_from_slice(&held.to_le_bytes());
 }
 
 // What so many bytes hold of a value, the least significant first.

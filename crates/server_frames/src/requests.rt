@@ -7,31 +7,31 @@ use crate::first::{command_of, is_expedited, tells_size, unused_of};
 use channels::numbers::number;
 use dictionary::entries::find;
 
-// A client's command specifiers.
-const DOWNLOAD: u8 = 1;
-
-const UPLOAD: u8 = 2;
-
-// A server's too.
-const ABORT: u8 = 4;
+// What a client asks, by its command specifier.
+enum Asked {
+    Download = 1,
+    Upload = 2,
+    // A server's too.
+    Abort = 4,
+}
 
 // An expedited download: no other is known.
 pub fn asks_download(first: u8) -> bool
     ensures { result ≡ eqb (command_of first) 1 && is_expedited first }
 {
-    (command_of(first) == DOWNLOAD) & is_expedited(first)
+    (command_of(first) == Asked::Download as u8) & is_expedited(first)
 }
 
 pub fn asks_upload(first: u8) -> bool
     ensures { result ≡ eqb (command_of first) 2 }
 {
-    command_of(first) == UPLOAD
+    command_of(first) == Asked::Upload as u8
 }
 
 pub fn aborts(first: u8) -> bool
     ensures { result ≡ eqb (command_of first) 4 }
 {
-    command_of(first) == ABORT
+    command_of(first) == Asked::Abort as u8
 }
 
 // The second and the third byte, the least significant first.
@@ -39,7 +39,7 @@ pub fn index_in(frame: &[u8]) -> u16
     requires { length frame.now ≡ 8 }
     ensures { result ≡ index_in frame.now }
 {
-    frame[1] as u16 + 256 * (frame[2] as u16)
+    u16::from_le_bytes([frame[1], frame[2]])
 }
 
 pub fn sub_in(frame: &[u8]) -> u8
@@ -65,12 +65,15 @@ pub fn size_in(frame: &[u8]) -> usize
     if tells_size(frame[0]) {
         return told_size(frame[0]);
     }
-    let entry = find(index_in(frame), sub_in(frame));
-    entry.size as usize
+    match find(index_in(frame), sub_in(frame)) {
+        Ok(entry) => usize::from(entry.size),
+        Err(_) => 0,
+    }
 }
 
+#[tactic(auto, unfolding(profile::specs::Server::unused_of))]
 fn told_size(first: u8) -> usize
     ensures { result ≡ told_size first }
 {
-    4 - unused_of(first) as usize
+    4 - usize::from(unused_of(first))
 }

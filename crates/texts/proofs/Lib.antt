@@ -1,6 +1,6 @@
--- Laws of text that is put into a buffer and of tables of words, and that what is printed reads back.
+-- Laws of text that is put into a buffer, and that what is printed reads back.
 -- Assumes nothing.
 pub mod PutLaws
-pub mod TextLaws
 pub mod TableLaws
+pub mod TextLaws
 pub mod ReadBack

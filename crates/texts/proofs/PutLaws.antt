@@ -3,10 +3,10 @@
 use mathlib.Core.Path.{◌≡◌, refl, sym, ap, subst, ◌∙◌}
 use mathlib.Core.Bool.{Bool, true, false, cond}
 use mathlib.Core.List.{List, [], ◌∷◌, ◌++◌, append_assoc}
-use Prim.Native.Nat.{ℕ, suc, ◌+◌, ◌≤◌, ◌<◌}
+use Prim.Native.Nat.{ℕ, suc, ◌+◌}
 use native.Mathlib.Nat.{add-zero, add-suc, suc-add}
 use native.Mathlib.Omega.{arith}
-use lib.ListN.{length, set, length-append, length-set}
+use lib.ListN.{length, set, length-append}
 use lib.Seq.{sets}
 use Rattle.texts.specs.Texts.{Put}
 
@@ -17,12 +17,6 @@ sets_append (x ∷ t) u l i = ap (λ k. sets (sets (set l i x) (suc i) t) k u) (
 
 pub put_none : (l : List ℕ) (at : ℕ) → Put [] l at l at
 put_none l at = record { kept = refl; inside = λ h. h; moved = λ h. sym (add-zero at); written = λ h. refl }
-
-pub put_one : (b : ℕ) (l : List ℕ) (at : ℕ) → at < length l → Put (b ∷ []) l at (set l at b) (at + 1)
-put_one b l at h = record { kept = length-set l at b; inside = λ k. omega arith; moved = λ k. refl; written = λ k. refl }
-
-pub put_full : (b : ℕ) (l : List ℕ) (at : ℕ) → length l ≤ at → Put (b ∷ []) l at l at
-put_full b l at h = record { kept = refl; inside = λ k. k; moved = λ k. absurd (omega arith); written = λ k. absurd (omega arith) }
 
 module _ {t u a b c : List ℕ} {i j k : ℕ} where
   pub put_then : Put t a i b j → Put u b j c k → Put (t ++ u) a i c k

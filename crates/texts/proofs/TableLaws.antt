@@ -1,4 +1,5 @@
--- Tables of words: what the code keeps as one text with `;` between the entries says the table's words.
+-- Tables of words: a table kept as one text, with `;` between the entries, says the table's words. (The code keeps each text by itself,
+-- in a `match`; see `crates/answers/src/tables.rt`.)
 -- Assumes nothing.
 use mathlib.Core.Path.{◌≡◌, refl, ap, subst, ◌∙◌}
 use mathlib.Core.Bool.{Bool, true, false, cond}
@@ -9,9 +10,18 @@ use native.Mathlib.Omega.{arith}
 use lib.Dec.{eqb}
 use lib.ListN.{length, take, drop, get_or}
 use Rattle.words.specs.Words.{run, InFront}
-use Rattle.texts.specs.Tables.{Row, text_of, entry_of, PutFrom}
+use Rattle.texts.specs.Tables.{Row, text_of}
 use Rattle.texts.specs.Texts.{Put}
 use Rattle.words.proofs.RunLaws.{run_within}
+
+-- the nth entry of such a text
+abbrev pub entry_of : ℕ → List ℕ → List ℕ
+entry_of zero text = take (run false 59 text) text
+entry_of (suc n) text = entry_of n (drop 1 (drop (run false 59 text) text))
+
+-- what was put for a number is the entry of its place among the numbers; the last entry where it is none of them
+pub record PutFrom (numbers text : List ℕ) (n : ℕ) (before : List ℕ) (at : ℕ) (after : List ℕ) (next : ℕ) : Type 0 where
+  pub put : Put (entry_of (run false n numbers) text) before at after next
 
 -- ---- an entry of a text
 

@@ -1,22 +1,28 @@
 -- Numbers and lists as text.
 -- Assumes nothing.
 use mathlib.Core.Path.{◌≡◌, refl, sym, ap, subst, ◌∙◌}
-use mathlib.Core.Bool.{Bool, true, false}
+use mathlib.Core.Bool.{Bool, true, false, cond}
 use mathlib.Core.List.{List, [], ◌∷◌, ◌++◌, append-nil, append_assoc}
 use Prim.Native.Nat.{ℕ, zero, suc, ◌+◌, ◌-◌, ◌*◌, ◌/◌, ◌%◌, ◌^◌, ◌≤◌, ◌<◌}
 use native.Mathlib.Nat.{pow-suc, one-le-pow, mul-le-mul_left, le-div_iff_mul-le, div-lt_iff_lt-mul}
-use native.Mathlib.Numerals.{add-one}
 use native.Mathlib.Omega.{arith}
 use lib.Dec.{ltb, leb}
+use lib.IntN.{ℤ, pos, negsuc}
+use mir.Syntax.{w16, w32}
+use mir.Val.{SFits, of_z}
+use Rattle.std.specs.Int.{is_negative, to_be_bytes}
+use Rattle.std.proofs.lemmas.List.{take_more}
+use Rattle.std.specs.Int.RustNames.{unsigned_abs}
 use lib.Pow.{pow-add}
 use lib.ListN.{length, take, get_or}
-use lib.Seq.{take-suc, take_all}
+use lib.Seq.{take_all}
 use borrow.Author.Tests.{eqb-true, eqb-false, lt-ltb, le-ltb, leb-true, leb-false}
 use Rattle.io.specs.Digits.{last_digits, IsDigitCount}
 use Rattle.words.specs.Words.{first_word, after_word, words_of, is_blank}
 use Rattle.words.proofs.SplitLaws.{words_more, words_none}
-use Rattle.texts.specs.Texts.{Put, digits_of, places_of, decimal_text, each_text, words_text, place_text, places_from, places_text}
-use Rattle.texts.proofs.PutLaws.{put_none, put_then}
+use Rattle.texts.specs.Texts.{Put, digits_of, places_of, hex_text, long_hex_text, decimal_text, bits_text, each_text, words_text}
+use Rattle.texts.specs.Texts.{place_text, places_from, places_text}
+use Rattle.texts.proofs.PutLaws.{put_none, put_then, put_as}
 
 -- ---- decimal digits
 
@@ -63,6 +69,26 @@ unfolding decimal_text
 decimal_is n k t h f e = e ∙ decimal_digits k n ∙ ap (λ j. digits_of 10 j n)
     (places_is 19 n k f.0 (few_places n k h f.2) f.1 f.2)
 
+-- ---- numbers by bytes, and with a sign
+
+-- the bytes of 32 bits, the highest first
+pub long_hex_is : (n : ℕ) → n < 2 ^ 32 → long_hex_text n ≡ each_text hex_text (to_be_bytes w32 n)
+unfolding long_hex_text hex_text
+long_hex_is n h =
+    let high : n / 16777216 % 256 ≡ n / 16777216 = omega arith in
+    simp high
+
+-- 16 bits are written by their sign and their absolute value
+pub signed_is : (z : ℤ) (n : ℕ) → SFits w16 z → n ≡ unsigned_abs z → bits_text (of_z w16 z)
+    ≡ cond (is_negative z) (45 ∷ []) [] ++ decimal_text n
+unfolding bits_text
+signed_is (pos k) n f e =
+    let fits : k < 32768 = f.sfits in
+    rw (e, lt-ltb k 32768 fits, le-ltb k 0 (omega arith))
+signed_is (negsuc k) n f e =
+    let fits : k < 32768 = f.sfits in
+    rw (e, le-ltb (65536 - suc k) 32768 (omega arith)) (ap (λ k. 45 ∷ decimal_text k) (omega arith))
+
 -- ---- lists
 
 module _ {A : Type 0} (f : A → List ℕ) where
@@ -74,19 +100,11 @@ module _ {A : Type 0} (f : A → List ℕ) where
   pub each_more : {a b c : List ℕ} {p q r : ℕ} (xs : List A) (i : ℕ) (d : A) → i < length xs → Put (each_text f (take i xs)) a p b q → Put
       (f (get_or xs i d)) b q c r →
       Put (each_text f (take (i + 1) xs)) a p c r
-  each_more {a} {b} {c} {p} {q} {r} xs i d h u v =
-      subst (λ (t : List ℕ). Put t a p c r)
-      (sym (each_snoc (take i xs) (get_or xs i d)) ∙ ap (each_text f) (sym (take-suc xs i d h) ∙ ap (λ k. take k xs) (sym (add-one i))))
-      (put_then u v)
+  each_more xs i d h u v = put_as (ap (each_text f) (take_more xs i d h) ∙ each_snoc (take i xs) (get_or xs i d)) (put_then u v)
 
   pub each_all : {a b : List ℕ} {p q : ℕ} (xs : List A) (i : ℕ) → length xs ≤ i → Put (each_text f (take i xs)) a p b q → Put
       (each_text f xs) a p b q
-  each_all {a} {b} {p} {q} xs i h u = subst (λ (l : List A). Put (each_text f l) a p b q) (take_all i xs h) u
-
--- the text of single bytes
-pub each_byte : (xs : List ℕ) → each_text (λ (b : ℕ). b ∷ []) xs ≡ xs
-each_byte [] = refl
-each_byte (x ∷ xs) = ap (λ (l : List ℕ). x ∷ l) (each_byte xs)
+  each_all xs i h u = put_as (ap (each_text f) (sym (take_all i xs h))) u
 
 -- ---- words
 
@@ -127,8 +145,3 @@ placing_more {bits} {p} {n} {rest} {q} {r} {a} {b} {c} h u v =
       left = append_assoc u.text (place_text n rest) (places_from (17 - (n + 1)) (n + 1) (rest / 2))
           ∙ ap (λ k. u.text ++ places_from k n rest) (sym e) ∙ u.left;
     }
-
-pub placing_all : {bits p n rest q : ℕ} {a b : List ℕ} → 17 ≤ n → Placing bits a p n rest b q → Put (places_text bits) a p b q
-placing_all {bits} {p} {n} {rest} {q} {a} {b} h u =
-    let e : 17 - n ≡ 0 = omega arith in
-    subst (λ (t : List ℕ). Put t a p b q) (sym (append-nil u.text) ∙ ap (λ k. u.text ++ places_from k n rest) (sym e) ∙ u.left) u.put

@@ -1,7 +1,5 @@
-// What an answer line is made of: numbers, bytes and words as text, and words from tables.
+// What an answer line is made of: numbers, bytes and words as text.
 #![tactic(auto)]
 
 // Bytes put into a lent buffer.
 pub mod text;
-// Words from tables.
-pub mod tables;

@@ -1,12 +1,12 @@
 // Bytes put into a lent buffer from a position on; each function answers the position after them. What does not fit is left out.
-ghost use Rattle.std.specs.Prelude.{◌≡◌, [], ◌∷◌, ◌<◌};
+// None of it goes by Display: each promise names every byte, and what `fmt` writes no proof can use.
+ghost use Rattle.std.specs.Prelude.{◌≡◌, List, [], ◌∷◌, ℕ, ◌<◌};
 ghost use Rattle.std.specs.Int.{w16};
 ghost use Rattle.std.proofs.Common.{of_z};
 ghost use Rattle.texts.specs.Texts.{Put, glyph_of, hex_text, long_hex_text, decimal_text, bits_text, bytes_text, numbers_text};
 ghost use Rattle.words.specs.Words.{words_of};
-ghost use Rattle.texts.specs.Texts.{words_text, place_text, places_text};
+ghost use Rattle.texts.specs.Texts.{each_text, words_text, place_text, places_text};
 
-use channels::numbers::bits16;
 use words::split::{after_word, first_word, is_blank};
 
 pub fn put(out: &mut [u8], at: usize, byte: u8) -> usize
@@ -23,10 +23,8 @@ pub fn put_all(out: &mut [u8], at: usize, text: &[u8]) -> usize
     ensures { Put text.now out.old at out.new result }
 {
     let mut next = at;
-    let mut i = 0;
-    while i < text.len() {
-        next = put(out, next, text[i]);
-        i += 1;
+    for byte in text {
+        next = put(out, next, *byte);
     }
     next
 }
@@ -37,12 +35,13 @@ fn glyph(digit: u8) -> u8
     ensures { result ≡ glyph_of digit }
 {
     if digit < 10 {
-        return 48 + digit;
+        return b'0' + digit;
     }
-    55 + digit
+    b'A' - 10 + digit
 }
 
 // Two hexadecimal digits.
+#[tactic(auto, using(crate::proofs::PutLaws::put_then), unfolding(crate::specs::Texts::hex_text))]
 pub fn put_hex(out: &mut [u8], at: usize, byte: u8) -> usize
     ensures { Put (hex_text byte) out.old at out.new result }
 {
@@ -54,10 +53,11 @@ pub fn put_hex(out: &mut [u8], at: usize, byte: u8) -> usize
 pub fn put_long_hex(out: &mut [u8], at: usize, number: u32) -> usize
     ensures { Put (long_hex_text number) out.old at out.new result }
 {
-    let second = put_hex(out, at, (number / 16_777_216) as u8);
-    let third = put_hex(out, second, (number / 65_536 % 256) as u8);
-    let fourth = put_hex(out, third, (number / 256 % 256) as u8);
-    put_hex(out, fourth, (number % 256) as u8)
+    let mut next = at;
+    for byte in number.to_be_bytes() {
+        next = put_hex(out, next, byte);
+    }
+    next
 }
 
 // A decimal number.
@@ -73,40 +73,62 @@ pub fn put_decimal(out: &mut [u8], at: usize, number: u64) -> usize
 pub fn put_signed(out: &mut [u8], at: usize, number: i16) -> usize
     ensures { Put (bits_text (of_z w16 number)) out.old at out.new result }
 {
-    let bits = bits16(number) as u64;
-    if bits < 32_768 {
-        return put_decimal(out, at, bits);
+    let next = if number.is_negative() {
+        put(out, at, b'-')
+    } else {
+        at
+    };
+    put_decimal(out, next, u64::from(number.unsigned_abs()))
+}
+
+// What has a text of its own.
+trait Printed {
+    ghost text: { Self → List ℕ };
+
+    fn put(&self, out: &mut [u8], at: usize) -> usize
+        ensures { Put (text self.now) out.old at out.new result };
+}
+
+impl Printed for u8 {
+    ghost text = { hex_text };
+
+    fn put(&self, out: &mut [u8], at: usize) -> usize {
+        put_hex(out, at, *self)
     }
-    let next = put(out, at, b'-');
-    put_decimal(out, next, 65_536 - bits)
+}
+
+impl Printed for i16 {
+    ghost text = { λ z. bits_text (of_z w16 z) };
+
+    fn put(&self, out: &mut [u8], at: usize) -> usize {
+        put_signed(out, at, *self)
+    }
+}
+
+// A space and the text for each.
+fn put_each<T: Printed>(out: &mut [u8], at: usize, items: &[T]) -> usize
+    ensures { Put (each_text (λ x. 32 ∷ T.text x) items.now) out.old at out.new result }
+{
+    let mut next = at;
+    for item in items {
+        next = put(out, next, b' ');
+        next = item.put(out, next);
+    }
+    next
 }
 
 // A space and two digits for each byte.
 pub fn put_bytes(out: &mut [u8], at: usize, bytes: &[u8]) -> usize
     ensures { Put (bytes_text bytes.now) out.old at out.new result }
 {
-    let mut next = at;
-    let mut i = 0;
-    while i < bytes.len() {
-        next = put(out, next, b' ');
-        next = put_hex(out, next, bytes[i]);
-        i += 1;
-    }
-    next
+    put_each(out, at, bytes)
 }
 
 // A space and the number for each.
 pub fn put_numbers(out: &mut [u8], at: usize, numbers: &[i16]) -> usize
     ensures { Put (numbers_text numbers.now) out.old at out.new result }
 {
-    let mut next = at;
-    let mut i = 0;
-    while i < numbers.len() {
-        next = put(out, next, b' ');
-        next = put_signed(out, next, numbers[i]);
-        i += 1;
-    }
-    next
+    put_each(out, at, numbers)
 }
 
 // A space and the word for each word of a text.
@@ -122,6 +144,7 @@ pub fn put_each_word(out: &mut [u8], at: usize, text: &[u8]) -> usize
 }
 
 // A space and n where the lowest bit is 1.
+#[tactic(auto, using(crate::proofs::PutLaws::put_then, crate::proofs::PutLaws::put_none), unfolding(crate::specs::Texts::place_text))]
 fn put_place(out: &mut [u8], at: usize, n: u64, bits: u16) -> usize
     ensures { Put (place_text n bits) out.old at out.new result }
 {
@@ -133,16 +156,15 @@ fn put_place(out: &mut [u8], at: usize, n: u64, bits: u16) -> usize
 }
 
 // A space and n for each bit n - 1 that is 1.
+#[tactic(auto, using(crate::proofs::TextLaws::placing_none, crate::proofs::TextLaws::placing_more))]
 pub fn put_places(out: &mut [u8], at: usize, bits: u16) -> usize
     ensures { Put (places_text bits) out.old at out.new result }
 {
     let mut next = at;
     let mut rest = bits;
-    let mut n = 1;
-    while n < 17 {
+    for n in 1..17 {
         next = put_place(out, next, n, rest);
-        rest = rest / 2;
-        n += 1;
+        rest /= 2;
     }
     next
 }

@@ -18,7 +18,7 @@ use Rattle.profile.proofs.BoolLaws.{both}
 use Rattle.profile.proofs.BitLaws.{bit_and_lem, bit_or_lem, bit_not, bit_ones, bit_zero}
 use Rattle.windows.specs.declared.Row.{Row}
 use Rattle.windows.specs.View.{line_at, row_at, is_empty, window}
-use Rattle.windows.specs.Promises.{Lined, written, masked, row_set, cleared, RowOf, Joins, Picks}
+use Rattle.windows.specs.Promises.{Lined, written, masked, row_set, cleared, RowOf, Joins, Inverts, Picks}
 use Rattle.windows.proofs.WindowLaws.{window_bit, window_small, bit_low}
 
 -- ---- operations on whole rows
@@ -38,35 +38,42 @@ row_op op f law x y =
           ∙ cond_op f (ltb i 64) _ _ _ _;
     }
 
--- a bit of one word or of another, as a bit of a third decides
-abbrev pub pick_word : ℕ → ℕ → ℕ → ℕ → ℕ
-pick_word width c a b = bit_or (bit_and b (2 ^ width - 1 - c)) (bit_and a c)
+cond_not : (t p q : Bool) → cond t (not p) (not q) ≡ not (cond t p q)
+cond_not true p q = refl
+cond_not false p q = refl
+
+pub row_not : (x : Row) → x.low < 2 ^ 64 → x.high < 2 ^ 64 → Inverts x (record { low = 2 ^ 64 - 1 - x.low; high = 2 ^ 64 - 1 - x.high })
+unfolding row_at
+row_not x hl hh =
+    record {
+      at = λ i.
+          ap₂ (cond (ltb i 64)) (bit_not 64 x.low (i % 64) hl (mod-lt i (zero-lt-suc 63)))
+          (bit_not 64 x.high (i % 64) hh (mod-lt i (zero-lt-suc 63)))
+          ∙ cond_not (ltb i 64) _ _;
+    }
 
 mux : (c a b : Bool) → (b && not c) || (a && c) ≡ cond c a b
 mux true a b = ap₂ ◌||◌ (and-false b) (and-true a)
 mux false a b = ap₂ ◌||◌ (and-true b) (and-false a) ∙ or-false b
+
+pub row_pick : {c a b else kept taken r : Row} → Inverts c else → Joins ◌&&◌ b else kept → Joins ◌&&◌ a c taken
+    → Joins ◌||◌ kept taken r → Picks c a b r
+row_pick {c} {a} {b} e k t r =
+    record {
+      at = λ i.
+          r.at i ∙ ap₂ ◌||◌ (k.at i ∙ ap (λ (x : Bool). row_at b i && x) (e.at i)) (t.at i)
+          ∙ mux (row_at c i) (row_at a i) (row_at b i);
+    }
+
+-- a bit of one word or of another, as a bit of a third decides
+abbrev pub pick_word : ℕ → ℕ → ℕ → ℕ → ℕ
+pick_word width c a b = bit_or (bit_and b (2 ^ width - 1 - c)) (bit_and a c)
 
 bit_pick : (width c a b i : ℕ) → c < 2 ^ width → i < width → bit_at (pick_word width c a b) i ≡ cond (bit_at c i) (bit_at a i) (bit_at b i)
 bit_pick width c a b i hc hi =
     bit_or_lem _ _ i
     ∙ ap₂ ◌||◌ (bit_and_lem b _ i ∙ ap (λ (x : Bool). bit_at b i && x) (bit_not width c i hc hi)) (bit_and_lem a c i)
     ∙ mux (bit_at c i) (bit_at a i) (bit_at b i)
-
-cond_pick : (t c d a b x y : Bool) → cond t (cond c a b) (cond d x y) ≡ cond (cond t c d) (cond t a x) (cond t b y)
-cond_pick true c d a b x y = refl
-cond_pick false c d a b x y = refl
-
-pub row_pick : (c a b : Row) → c.low < 2 ^ 64 → c.high < 2 ^ 64
-    → Picks c a b (record { low = pick_word 64 c.low a.low b.low; high = pick_word 64 c.high a.high b.high })
-unfolding row_at
-row_pick c a b hl hh =
-    record {
-      at = λ i.
-          ap₂ (cond (ltb i 64))
-          (bit_pick 64 c.low a.low b.low (i % 64) hl (mod-lt i (zero-lt-suc 63)))
-          (bit_pick 64 c.high a.high b.high (i % 64) hh (mod-lt i (zero-lt-suc 63)))
-          ∙ cond_pick (ltb i 64) _ _ _ _ _ _;
-    }
 
 -- ---- the row of all lines, and of none
 

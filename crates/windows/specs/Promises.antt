@@ -1,6 +1,6 @@
 -- What the functions on rows and windows promise.
 -- Assumes nothing.
-use Rattle.std.specs.Prelude.{◌≡◌, Bool, false, cond, ◌&&◌, List, ℕ, ◌*◌, ◌/◌, ◌≤◌, ◌<◌, eqb, ltb, leb, length}
+use Rattle.std.specs.Prelude.{◌≡◌, Bool, false, not, cond, ◌&&◌, List, ℕ, ◌*◌, ◌/◌, ◌≤◌, ◌<◌, eqb, ltb, leb, length}
 use Rattle.profile.specs.Bits.{bit_at}
 use Rattle.profile.specs.Bytes.{line_bit}
 use Rattle.profile.specs.Entries.{inside, bit_of}
@@ -47,6 +47,10 @@ pub record RowOf (words : List ℕ) (a : ℕ) (r : Row) : Type 0 where
 -- r is x and y, joined line by line
 pub record Joins (f : Bool → Bool → Bool) (x y r : Row) : Type 0 where
   pub at : (i : ℕ) → row_at r i ≡ f (row_at x i) (row_at y i)
+
+-- r is x, inverted line by line
+pub record Inverts (x r : Row) : Type 0 where
+  pub at : (i : ℕ) → row_at r i ≡ not (row_at x i)
 
 -- r is a where c is 1, else b
 pub record Picks (c a b r : Row) : Type 0 where

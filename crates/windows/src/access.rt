@@ -1,5 +1,5 @@
 // Windows of 1, 8, 16 or 32 lines on the rows, and whole rows.
-ghost use Rattle.std.specs.Prelude.{◌≡◌, length, ◌+◌, ◌*◌, ◌/◌, ◌%◌, ◌^◌, ◌≤◌, ◌<◌};
+ghost use Rattle.std.specs.Prelude.{◌≡◌, ◌+◌, ◌*◌, ◌/◌, ◌%◌, ◌^◌, ◌≤◌, ◌<◌};
 ghost use Rattle.profile.specs.Entries.{first_line};
 ghost use Rattle.windows.specs.View.{window};
 ghost use Rattle.windows.specs.Promises.{Covers, Lined, written, masked, row_set, cleared, RowOf};
@@ -39,7 +39,6 @@ pub fn get(words: &Words, row: usize, width: usize, sub: usize) -> u32
 
 // A window's value is replaced.
 pub fn put(words: &mut Words, row: usize, width: usize, sub: usize, value: u32)
-    requires words_len { length words.old ≡ 40 }
     requires covers { Covers row width sub }
     requires value_bound { value < 2 ^ width }
     ensures { Lined words.new (written words.old row width sub value) }
@@ -48,12 +47,11 @@ pub fn put(words: &mut Words, row: usize, width: usize, sub: usize, value: u32)
     let at = found.word;
     let old = words[at];
     let mask = ((1u64 << width) - 1) << found.shift;
-    words[at] = (old & !mask) | ((value as u64) << found.shift);
+    words[at] = (old & !mask) | (u64::from(value) << found.shift);
 }
 
 // The same where the line of the row `gate` is 1.
 pub fn put_masked(words: &mut Words, row: usize, gate: usize, width: usize, sub: usize, value: u32)
-    requires words_len { length words.old ≡ 40 }
     requires covers { Covers row width sub }
     requires gate_bound { gate < 20 }
     requires value_bound { value < 2 ^ width }
@@ -78,8 +76,7 @@ pub fn row(words: &Words, a: usize) -> Row
 
 // A whole row is replaced.
 pub fn set_row(words: &mut Words, a: usize, new: Row)
-    requires words_len { length words.old ≡ 40 }
-    requires a_bound { a < 20 }
+    requires { a < 20 }
     ensures { Lined words.new (row_set words.old a new) }
 {
     let at = 2 * a;
@@ -89,13 +86,10 @@ pub fn set_row(words: &mut Words, a: usize, new: Row)
 
 // The rows from `from` up to `to` become 0, the last left out.
 pub fn clear_rows(words: &mut Words, from: usize, to: usize)
-    requires words_len { length words.old ≡ 40 }
-    requires from_le_to { (from ≤ to) × (to ≤ 20) }
+    requires { (from ≤ to) × (to ≤ 20) }
     ensures { Lined words.new (cleared words.old from to) }
 {
-    let mut a = from;
-    while a < to {
-        set_row(words, a, Row { low: 0, high: 0 });
-        a += 1;
+    for a in from..to {
+        set_row(words, a, Row::NONE);
     }
 }

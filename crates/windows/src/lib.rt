@@ -13,7 +13,7 @@ pub const WORDS: usize = 40;
 pub type Words = [u64; WORDS];
 
 // One row of 128 lines.
-#[derive(Clone, Copy)]
+#[derive(Clone, Copy, PartialEq, Eq, Debug)]
 pub struct Row {
     pub low: u64,
     pub high: u64,

@@ -3,53 +3,84 @@ ghost use Rattle.std.specs.Prelude.{◌≡◌, ◌&&◌, ◌||◌, length};
 ghost use Rattle.profile.specs.Bits.{bit_at, flip, gather};
 ghost use Rattle.profile.specs.Bytes.{bytes, line_bit};
 ghost use Rattle.windows.specs.View.{row_at, is_empty};
-ghost use Rattle.windows.specs.Promises.{Joins, Picks, Loaded};
+ghost use Rattle.windows.specs.Promises.{Joins, Inverts, Picks, Loaded};
 
 use crate::Row;
+use std::ops::{BitAnd, BitOr, BitXor, Not};
 
-impl Row {
-    pub fn and(self, other: Row) -> Row
-        ensures { Joins ◌&&◌ self other result }
-    {
+impl BitAnd for Row {
+    type Output = Row;
+
+    ghost bitand_gives = { Joins ◌&&◌ };
+
+    fn bitand(self, other: Row) -> Row {
         Row {
             low: self.low & other.low,
             high: self.high & other.high,
         }
     }
+}
 
-    pub fn or(self, other: Row) -> Row
-        ensures { Joins ◌||◌ self other result }
-    {
+impl BitOr for Row {
+    type Output = Row;
+
+    ghost bitor_gives = { Joins ◌||◌ };
+
+    fn bitor(self, other: Row) -> Row {
         Row {
             low: self.low | other.low,
             high: self.high | other.high,
         }
     }
+}
 
-    pub fn xor(self, other: Row) -> Row
-        ensures { Joins flip self other result }
-    {
+impl BitXor for Row {
+    type Output = Row;
+
+    ghost bitxor_gives = { Joins flip };
+
+    fn bitxor(self, other: Row) -> Row {
         Row {
             low: self.low ^ other.low,
             high: self.high ^ other.high,
         }
     }
+}
+
+impl Not for Row {
+    type Output = Row;
+
+    ghost not_gives = { Inverts };
+
+    fn not(self) -> Row {
+        Row {
+            low: !self.low,
+            high: !self.high,
+        }
+    }
+}
+
+impl Row {
+    // The row with no line, and the row with every line.
+    pub const NONE: Row = Row { low: 0, high: 0 };
+
+    pub const ALL: Row = Row {
+        low: u64::MAX,
+        high: u64::MAX,
+    };
 
     // Where self is 1 the line of a, else that of b.
     pub fn pick(self, a: Row, b: Row) -> Row
         ensures { Picks self a b result }
     {
-        Row {
-            low: (b.low & !self.low) | (a.low & self.low),
-            high: (b.high & !self.high) | (a.high & self.high),
-        }
+        (b & !self) | (a & self)
     }
 
     // No line is 1.
     pub fn is_empty(self) -> bool
         ensures { result ≡ is_empty self }
     {
-        (self.low == 0) & (self.high == 0)
+        self == Row::NONE
     }
 
     // The row that sixteen bytes hold.
@@ -57,9 +88,11 @@ impl Row {
         requires { length bytes.now ≡ 16 }
         ensures { Loaded bytes.now result }
     {
-        let low = word(&bytes[0..8]);
-        let high = word(&bytes[8..16]);
-        Row { low, high }
+        let (low, high) = bytes.split_at(8);
+        Row {
+            low: word(low),
+            high: word(high),
+        }
     }
 
     // The row as sixteen bytes.
@@ -67,8 +100,9 @@ impl Row {
         requires { length out.old ≡ 16 }
         ensures { out.new ≡ bytes 16 (row_at self) }
     {
-        put_word(self.low, &mut out[0..8]);
-        put_word(self.high, &mut out[8..16]);
+        let (low, high) = out.split_at_mut(8);
+        put_word(self.low, low);
+        put_word(self.high, high);
     }
 }
 
@@ -77,13 +111,7 @@ fn put_word(word: u64, out: &mut [u8])
     requires { length out.old ≡ 8 }
     ensures { out.new ≡ bytes 8 (bit_at word) }
 {
-    let mut rest = word;
-    let mut j: usize = 0;
-    while j < 8 {
-        out[j] = (rest % 256) as u8;
-        rest = rest >> 8;
-        j += 1;
-    }
+    out.copy_from_slice(&word.to_le_bytes());
 }
 
 // Eight bytes as one word, the least significant first.
@@ -91,11 +119,5 @@ fn word(bytes: &[u8]) -> u64
     requires { length bytes.now ≡ 8 }
     ensures { result ≡ gather 64 (line_bit bytes.now) }
 {
-    let mut word: u64 = 0;
-    let mut j: usize = 8;
-    while 0 < j {
-        j -= 1;
-        word = (word << 8) | (bytes[j] as u64);
-    }
-    word
+    u64::from_le_bytes(bytes.try_into().unwrap())
 }

@@ -10,9 +10,6 @@ set_sources-requires c =
     let sources = c.sources_at-sources.ensures.1 in
     search (or_lt 16, events, sources)
 
-pub overflow_cast-result : goal.overflow_cast-result
-overflow_cast-result c = record { fits = events_small c.take_numbers-events.ensures }
-
 pub returns : goal.returns
 returns c =
     let a = c.args in

@@ -16,6 +16,3 @@ invariant-loop-i l = (l.i ≤ 16)
     (input_at l.octets l.limits l.deltas l.initial.values) (input_at l.octets l.limits l.deltas l.values) l.i
     × Missing (met l.on l.xs (input_at l.octets l.limits l.deltas l.initial.values)) l.i l.events
     × Outside 0 32 (pos 0) l.initial.values l.values
-
-abbrev pub decreases-loop-i : goal.decreases-loop-i
-decreases-loop-i l = l.i

@@ -1,30 +1,18 @@
--- `outputs::drive` meets its contract. The loop's invariant: the numbers below i are what the outputs drive.
+-- `drive` meets its contract. The loop's invariant: the numbers below i are what the outputs drive.
 -- Assumes nothing.
-use native.Mathlib.Omega.{arith}
-use borrow.Author.Rules.{rules}
-use Rattle.analogue_outputs.proofs.Mapped.{mapped_none, mapped_more, mapped_list}
+use Rattle.std.proofs.Common.{◌≡◌, ℕ, ◌<◌, List, length, get_or, ap, sym, ◌∙◌, arith}
+use Rattle.std.proofs.Math.Seq.{ext_get_or}
+use native.Mathlib.Nat.{zero-add}
+use Rattle.profile.specs.Bytes.{list_from}
+use Rattle.profile.proofs.ListLaws.{list_from_length, list_from_at}
 use Rattle.analogue_outputs.proofs.drive.Goals as goal
 
-pub loop-i-init : goal.loop-i-init
-loop-i-init c = (omega arith, mapped_none _ _ _)
-
-pub driven_at-driven-requires : goal.driven_at-driven-requires
-driven_at-driven-requires c = omega arith
-
-pub offset_bounds-out-i : goal.offset_bounds-out-i
-offset_bounds-out-i c = omega arith
-
-pub bounds-out-i : goal.bounds-out-i
-bounds-out-i c = omega arith
-
-pub overflow_add-i : goal.overflow_add-i
-overflow_add-i c = omega arith
-
-pub loop-i-smaller : goal.loop-i-smaller
-loop-i-smaller c = omega arith
-
-pub loop-i-preserved : goal.loop-i-preserved
-loop-i-preserved c = (omega arith, mapped_more _ _ _ _ _ _ c.loop-i.invariant.1 (omega (arith, c.loop-i.invariant.1.len)) (search rules))
+-- a list of n elements, each by its place
+listed : {A : Type 0} (n : ℕ) (f : ℕ → A) (d : A) (xs : List A) → length xs ≡ n → ((k : ℕ) → k < n → get_or xs k d ≡ f k)
+    → xs ≡ list_from n 0 f
+listed n f d xs long each =
+    ext_get_or d xs (list_from n 0 f) (long ∙ sym (list_from_length n 0 f))
+    (λ k h. each k (omega (arith, long)) ∙ sym (list_from_at n 0 f k d (omega (arith, long)) ∙ ap f (zero-add k)))
 
 pub returns : goal.returns
-returns c = record { numbers = mapped_list 8 _ _ _ _ _ c.loop-i.invariant.1 c.requires c.loop-i-test.false }
+returns c = record { numbers = listed 8 _ _ _ c.loop-i.invariant.0 (λ k h. c.loop-i.invariant.1 k (omega arith)) }

@@ -1,13 +1,8 @@
--- `outputs::drive` meets its contract. The loop's invariant: the numbers below i are what the outputs drive.
+-- `drive` meets its contract. The loop's invariant: the numbers below i are what the outputs drive.
 -- Assumes nothing.
-use Prim.Native.Nat.{◌+◌, ◌-◌, ◌≤◌}
-use lib.ListN.{get_or}
-use lib.IntN.{pos}
-use Rattle.analogue_outputs.proofs.Mapped.{Mapped}
+use Rattle.std.proofs.Common.{◌≡◌, ℕ, ◌<◌, length, get_or, pos}
+use Rattle.channels.specs.View.{driven_of}
 use Rattle.analogue_outputs.proofs.drive.Given as goal
 
 abbrev pub invariant-loop-i : goal.invariant-loop-i
-invariant-loop-i l = (l.i ≤ 8) × Mapped (λ k x. get_or l.values (48 + k) (pos 0)) (pos 0) l.initial.out l.out l.i
-
-abbrev pub decreases-loop-i : goal.decreases-loop-i
-decreases-loop-i l = 8 - l.i
+invariant-loop-i l = (length l.out ≡ 8) × ((k : ℕ) → k < l.i → get_or l.out k (pos 0) ≡ driven_of l.values k)

@@ -19,13 +19,13 @@ window index sub row w s e found is =
     subst (InRange (entry_of index sub)) (ap (λ (x : Entry). x.home) (sym found) ∙ is) (in_range index sub)
 
 pub overflow_sub-place : goal.overflow_sub-place
-overflow_sub-place c = (window c.args.index c.args.sub _ _ _ _ c.find-entry.ensures c.in-Window.is).first
+overflow_sub-place c = (window c.args.index c.args.sub _ _ _ _ c.find.ensures c.in-Window.is).first
 
 pub overflow_mul-width : goal.overflow_mul-width
 overflow_mul-width c =
     omega (
       arith,
-      (window c.args.index c.args.sub _ _ _ _ c.find-entry.ensures c.in-Window.is).last,
+      (window c.args.index c.args.sub _ _ _ _ c.find.ensures c.in-Window.is).last,
       lines_before c.in-Window.width c.in-Window.place,
     )
 
@@ -33,28 +33,28 @@ pub overflow_add-width : goal.overflow_add-width
 overflow_add-width c =
     omega (
       arith,
-      (window c.args.index c.args.sub _ _ _ _ c.find-entry.ensures c.in-Window.is).last,
+      (window c.args.index c.args.sub _ _ _ _ c.find.ensures c.in-Window.is).last,
       lines_before c.in-Window.width c.in-Window.place,
     )
 
 pub overflow_mul-width-in-Window : goal.overflow_mul-width-in-Window
-overflow_mul-width-in-Window c = omega (arith, (window c.args.index c.args.sub _ _ _ _ c.find-entry.ensures c.in-Window.is).last)
+overflow_mul-width-in-Window c = omega (arith, (window c.args.index c.args.sub _ _ _ _ c.find.ensures c.in-Window.is).last)
 
 pub returns-in-Window : goal.returns-in-Window
 returns-in-Window c =
-    let is = ap (λ (e : Entry). e.home) (sym c.find-entry.ensures) ∙ c.in-Window.is in
-    put_as (ap entry_text is) (put_two (ascii ")") newline
-    (put_then c.put_all-first.ensures (put_then c.put_attribute-second.ensures c.put_lines-last.ensures))
-    c.put_all.ensures)
+    let is = ap (λ (e : Entry). e.home) (sym c.find.ensures) ∙ c.in-Window.is in
+    put_as (ap entry_text is) (rw (← c.attribute.ensures) (put_two (ascii ")") newline
+    (put_then c.put_all-first.ensures (put_then c.put_all-second.ensures c.put_lines-last.ensures))
+    c.put_all.ensures))
 
 pub returns-in-MappingEntry : goal.returns-in-MappingEntry
 returns-in-MappingEntry c =
-    let is = ap (λ (e : Entry). e.home) (sym c.find-entry.ensures) ∙ c.in-MappingEntry.is in
+    let is = ap (λ (e : Entry). e.home) (sym c.find.ensures) ∙ c.in-MappingEntry.is in
     put_as (ap entry_text is)
     (put_two (ascii ")") newline (put_then c.put_all-first-in-MappingEntry.ensures c.put_mapping-last.ensures)
     c.put_all-in-MappingEntry.ensures)
 
 pub returns-in_default : goal.returns-in_default
 returns-in_default c =
-    let is = ap (λ (e : Entry). entry_text e.home) (sym c.find-entry.ensures) in
-    put_as (is ∙ no_words c.find-entry.result.home c.in_default.not-Window c.in_default.not-MappingEntry) c.put.ensures
+    let is = ap (λ (e : Entry). entry_text e.home) (sym c.find.ensures) in
+    put_as (is ∙ no_words c.find.result.home c.in_default.not-Window c.in_default.not-MappingEntry) c.put.ensures

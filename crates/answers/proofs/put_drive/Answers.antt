@@ -6,7 +6,4 @@ use Rattle.answers.proofs.put_drive.Goals as goal
 
 pub returns : goal.returns
 unfolding drive_line
-returns c =
-    put_then (put_then (put_then
-    (put_then (put_then c.put_number-first.ensures c.put_all-second.ensures) c.put_bytes-third.ensures)
-    c.put_all-fourth.ensures) c.put_numbers-last.ensures) c.end.ensures
+returns c = search put_then

@@ -6,7 +6,4 @@ use Rattle.answers.proofs.put_frame.Goals as goal
 
 pub returns : goal.returns
 unfolding frame_line
-returns c =
-    put_then (put_then (put_then
-    (put_then (put_then c.put_number-first.ensures c.put_all-second.ensures) c.put_bytes-third.ensures)
-    c.put_all-fourth.ensures) c.put_decimal-last.ensures) c.end_frame.ensures
+returns c = rw (← c.frame_end.ensures) (search put_then)

@@ -6,4 +6,4 @@ use Rattle.answers.proofs.put_plain.Goals as goal
 
 pub returns : goal.returns
 unfolding plain_line
-returns c = put_then c.put_number-next.ensures c.end.ensures
+returns c = search put_then

@@ -7,6 +7,6 @@ use Rattle.answers.proofs.put_unknown.Goals as goal
 pub returns : goal.returns
 unfolding unknown_line
 returns c =
-    put_then (put_then (put_then
-    (put_then (put_then c.put_all-first.ensures c.put_decimal-second.ensures) c.put_all-third.ensures)
-    c.put_all-fourth.ensures) c.put_expected-last.ensures) c.put.ensures
+    rw (← c.wanted.ensures)
+    (put_then (put_then (put_then (put_then (put_then c.put_all-first.ensures c.put_decimal-second.ensures)
+    c.put_all-third.ensures) c.put_all-fourth.ensures) c.put_all-last.ensures) c.put.ensures)

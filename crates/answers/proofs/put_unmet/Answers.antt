@@ -6,7 +6,4 @@ use Rattle.answers.proofs.put_unmet.Goals as goal
 
 pub returns : goal.returns
 unfolding unmet_line
-returns c =
-    put_then (put_then (put_then (put_then c.put_all-first.ensures c.put_decimal-second.ensures)
-    c.put_all-third.ensures)
-    c.put_each_word-last.ensures) c.put.ensures
+returns c = search put_then

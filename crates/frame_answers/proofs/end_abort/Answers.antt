@@ -9,5 +9,5 @@ use Rattle.frame_answers.proofs.end_abort.Goals as goal
 pub returns : goal.returns
 unfolding abort_end
 returns c =
-    put_two (ascii ")") newline (put_then c.put_all-first.ensures c.put_meaning-last.ensures)
-    c.put_all.ensures
+    rw (← c.meaning.ensures) (put_two (ascii ")") newline (put_then c.put_all-first.ensures c.put_all-last.ensures)
+    c.put_all.ensures)

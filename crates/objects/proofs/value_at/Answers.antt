@@ -1,24 +1,8 @@
 -- `value_at` meets its contract, by where the entry lives.
 -- Assumes nothing.
-use mathlib.Core.Path.{refl, subst}
+use mathlib.Core.Path.{refl}
 use Rattle.profile.specs.Replies.{read_value}
-use Rattle.store.specs.Promises.{Readable}
-use Rattle.profile.specs.declared.Home.TheVariants.{Window}
 use Rattle.objects.proofs.value_at.Goals as goal
-
-pub read-requires : goal.read-requires
-read-requires c =
-    let p : Readable (Window c.in-Window.row c.in-Window.width c.in-Window.sub) = subst Readable c.in-Window.is c.requires in
-    record { covers = p.0; row_bound = p.1 }
-
-pub input_at-channel-requires : goal.input_at-channel-requires
-input_at-channel-requires c = subst Readable c.in-InputChannel.is c.requires
-
-pub output_at-channel-requires : goal.output_at-channel-requires
-output_at-channel-requires c = subst Readable c.in-OutputChannel.is c.requires
-
-pub read-requires-in-MappingEntry : goal.read-requires-in-MappingEntry
-read-requires-in-MappingEntry c = subst Readable c.in-MappingEntry.is c.requires
 
 pub returns-in-Constant : goal.returns-in-Constant
 unfolding read_value
@@ -34,7 +18,7 @@ returns-in-InputChannel c = rw c.in-InputChannel.is (rw c.input_at-channel.ensur
 
 pub returns-in-OutputChannel : goal.returns-in-OutputChannel
 unfolding read_value
-returns-in-OutputChannel c = rw c.in-OutputChannel.is (rw c.output_at-channel.ensures at c.read_output.ensures)
+returns-in-OutputChannel c = rw c.in-OutputChannel.is (rw c.output_at.ensures at c.read_output.ensures)
 
 pub returns-in-Sources : goal.returns-in-Sources
 unfolding read_value
@@ -42,7 +26,7 @@ returns-in-Sources c = rw c.in-Sources.is c.read_sources.ensures
 
 pub returns-in-Device : goal.returns-in-Device
 unfolding read_value
-returns-in-Device c = rw c.in-Device.is (rw c.node_at-was.ensures at c.read-in-Device.ensures)
+returns-in-Device c = rw c.in-Device.is (rw c.node.ensures at c.read-in-Device.ensures)
 
 pub returns-in-MappingEntry : goal.returns-in-MappingEntry
 unfolding read_value

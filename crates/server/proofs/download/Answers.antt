@@ -1,19 +1,17 @@
 -- `download` meets its contract: the plain write's reply, refused or accepted.
 -- Assumes nothing.
-use Rattle.store.specs.View.{held}
+use mathlib.Core.Path.{refl}
+use Rattle.profile.specs.Numbers.{refusal_number}
+use Rattle.profile.proofs.AnswerLaws.{not_accepted}
 use Rattle.server.proofs.RequestLaws.{download_aborted, downloaded}
 use Rattle.server.proofs.download.Goals as goal
 
-pub returns-then-number-ne0 : goal.returns-then-number-ne0
-returns-then-number-ne0 c =
-    let a = c.args in
-    let d = held a.octets.now a.flags.now a.words.now a.limits.now a.deltas.now a.values.now in
-    download_aborted d _ a.frame.now _ _ _ _ c.index_in.ensures c.sub_in.ensures c.size_in-size.ensures.0
-    _ c.write-number.ensures c.if-number-ne0.true c.put_abort.ensures
+pub returns-in-Ok : goal.returns-in-Ok
+returns-in-Ok c =
+    downloaded c.args.store.now _ c.args.frame.now _ _ _ _ c.index_in.ensures c.sub_in.ensures c.size_in.ensures.0
+    0 c.in-Ok.ensures refl c.requires.2 c.put_download.ensures
 
-pub returns : goal.returns
-returns c =
-    let a = c.args in
-    let d = held a.octets.now a.flags.now a.words.now a.limits.now a.deltas.now a.values.now in
-    downloaded d _ a.frame.now _ _ _ _ c.index_in.ensures c.sub_in.ensures c.size_in-size.ensures.0
-    _ c.write-number.ensures c.if-number-ne0.false c.requires.2 c.put_download.ensures
+pub returns-in-Err : goal.returns-in-Err
+returns-in-Err c =
+    download_aborted c.args.store.now _ c.args.frame.now _ _ _ _ c.index_in.ensures c.sub_in.ensures c.size_in.ensures.0
+    (refusal_number c.in-Err.refusal) c.in-Err.ensures (not_accepted c.in-Err.refusal) (rw c.number.ensures at c.put_abort.ensures)

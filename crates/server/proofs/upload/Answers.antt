@@ -1,25 +1,23 @@
 -- `upload` meets its contract: the plain read's reply, refused or accepted.
 -- Assumes nothing.
-use Rattle.store.specs.View.{held}
-use Rattle.objects.specs.View.{read_number}
+use mathlib.Core.Path.{refl}
+use Rattle.profile.specs.Numbers.{refusal_number}
+use Rattle.profile.specs.Replies.{plain, read_reply}
+use Rattle.profile.proofs.AnswerLaws.{not_accepted}
 use Rattle.server.proofs.RequestLaws.{read_bytes, upload_aborted, uploaded}
 use Rattle.server.proofs.upload.Goals as goal
 
-pub returns-then-done-ne0 : goal.returns-then-done-ne0
-returns-then-done-ne0 c =
-    let a = c.args in
-    let d = held a.octets.now a.flags.now a.words.now a.limits.now a.deltas.now a.values.now in
-    upload_aborted d _ a.frame.now _ _ _ c.index_in.ensures c.sub_in.ensures (read_number c.read-done.result)
-    c.read-done.ensures c.if-done-ne0.true c.put_abort.ensures
-
 pub put_upload-requires : goal.put_upload-requires
 put_upload-requires c =
-    let bytes = read_bytes _ _ _ _ (read_number c.read-done.result) c.read-done.ensures c.if-done-ne0.false in
+    let bytes = read_bytes _ _ _ _ (read_reply c.in-Ok.done.value c.in-Ok.done.size) c.in-Ok.ensures.call refl in
     (c.requires.0, c.requires.1, bytes.0, bytes.1)
 
-pub returns : goal.returns
-returns c =
-    let a = c.args in
-    let d = held a.octets.now a.flags.now a.words.now a.limits.now a.deltas.now a.values.now in
-    uploaded d _ a.frame.now _ _ _ c.index_in.ensures c.sub_in.ensures (read_number c.read-done.result)
-    c.read-done.ensures c.if-done-ne0.false c.requires.2 c.put_upload.ensures
+pub returns-in-Ok : goal.returns-in-Ok
+returns-in-Ok c =
+    uploaded c.args.store.now _ c.args.frame.now _ _ _ c.index_in.ensures c.sub_in.ensures
+    (read_reply c.in-Ok.done.value c.in-Ok.done.size) c.in-Ok.ensures.call refl c.requires.2 c.put_upload.ensures
+
+pub returns-in-Err : goal.returns-in-Err
+returns-in-Err c =
+    upload_aborted c.args.store.now _ c.args.frame.now _ _ _ c.index_in.ensures c.sub_in.ensures
+    (plain (refusal_number c.in-Err.refusal)) c.in-Err.ensures.call (not_accepted c.in-Err.refusal) (rw c.number.ensures at c.put_abort.ensures)

@@ -1,17 +1,20 @@
 -- `move_outputs` meets its contract: the driven row is set where fault begins or ends.
 -- Assumes nothing.
+use borrow.Author.Rules.{rules}
 use Rattle.lines.proofs.OutputLaws.{unmoved, fault_begins, fault_ends}
 use Rattle.lines.proofs.machines.move_outputs.Goals as goal
 
-pub returns-then-before-after : goal.returns-then-before-after
-returns-then-before-after c = unmoved c.args.before c.args.after _ c.if-before-after.true
+pub returns-then-after : goal.returns-then-after
+returns-then-after c = unmoved _ _ _ (search rules)
 
-pub returns-then-before : goal.returns-then-before
-returns-then-before c =
-    fault_ends c.if-before-after.false c.if-before.true c.row-kept.result c.row-polarity.result c.row-kept.ensures
-    c.row-polarity.ensures c.drive_row.ensures
+pub returns-else-this : goal.returns-else-this
+returns-else-this c = unmoved _ _ _ (search rules)
 
-pub returns : goal.returns
-returns c =
-    fault_begins c.if-before-after.false c.if-before.false c.row-mode.result c.row-value.result c.row-mode.ensures
-    c.row-value.ensures c.drive_row-2.ensures
+pub returns-in-true-false : goal.returns-in-true-false
+returns-in-true-false c =
+    fault_ends c.in-true-false.is-0 c.in-true-false.is-1 c.row-kept.ensures c.row-polarity.ensures c.drive_row.ensures
+
+pub returns-in-false-true : goal.returns-in-false-true
+returns-in-false-true c =
+    fault_begins c.in-false-true.is-0 c.in-false-true.is-1 c.row-mode.ensures c.row-value.ensures
+    c.drive_row-in-false-true.ensures

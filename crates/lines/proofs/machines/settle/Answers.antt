@@ -8,14 +8,14 @@ use Rattle.lines.proofs.machines.settle.Goals as goal
 pub returns-then-is_empty : goal.returns-then-is_empty
 returns-then-is_empty c =
     let args = c.args in
-    let no-count = counts_none c.row.ensures c.xor-differs.ensures c.row-2.ensures c.and-waits.ensures args.samples
+    let no-count = counts_none c.row.ensures c.bitxor-differs.ensures c.row-2.ensures c.bitand-waits.ensures args.samples
     (sym c.is_empty.ensures ∙ c.if-is_empty.true)
     in
     settles no-count (takes_all args.new) c.set_row.ensures (cleared_counts _ c.clear_counts.ensures)
 
 pub returns : goal.returns
 returns c =
-    let some = counts_some c.row.ensures c.xor-differs.ensures c.row-2.ensures c.and-waits.ensures
-    c.reached.ensures c.and-settles.ensures c.xor-counts.ensures
+    let some = counts_some c.row.ensures c.bitxor-differs.ensures c.row-2.ensures c.bitand-waits.ensures
+    c.reached.ensures c.bitand-settles.ensures c.bitxor-counts.ensures
     in
-    settles some c.xor.ensures c.set_row-2.ensures c.count_on.ensures
+    settles some c.bitxor.ensures c.set_row-2.ensures c.count_on.ensures

@@ -1,16 +1,11 @@
--- `requests::size_in` meets its contract: told, or the entry's own.
+-- `size_in` meets its contract: told, or the entry's own.
 -- Assumes nothing.
-use mathlib.Core.Path.{ap₂, ◌∙◌, sym}
-use Rattle.profile.specs.Entries.{entry_of}
-use Rattle.server_frames.proofs.LayoutLaws.{size_told, size_own}
+use Rattle.std.proofs.Common.{ap, arith, rules}
+use Rattle.profile.specs.Entries.{Entry}
+use Rattle.profile.proofs.SizeLaws.{entry_sized}
 use Rattle.server_frames.proofs.requests.size_in.Goals as goal
 
-pub returns-then-tells_size : goal.returns-then-tells_size
-returns-then-tells_size c =
-    size_told c.args.frame.now c.told_size.result (sym c.tells_size.ensures ∙ c.if-tells_size.true)
-    c.told_size.ensures
-
-pub returns : goal.returns
-returns c =
-    size_own c.args.frame.now c.find-entry.result (sym c.tells_size.ensures ∙ c.if-tells_size.false)
-    (c.find-entry.ensures ∙ ap₂ entry_of c.index_in.ensures c.sub_in.ensures)
+pub returns-in-Ok : goal.returns-in-Ok
+returns-in-Ok c =
+    let sized = entry_sized c.index_in.result c.sub_in.result in
+    (search rules, omega (arith, sized.most, ap (λ (e : Entry). e.size) c.in-Ok.ensures, c.from.ensures))

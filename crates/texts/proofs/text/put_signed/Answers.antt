@@ -1,31 +1,25 @@
--- `text::put_signed` meets its contract.
+-- `text::put_signed` meets its contract: a sign where the number is below 0, and its absolute value.
 -- Assumes nothing.
-use mir.Facts.{to_z-of_z}
-use Rattle.texts.specs.Texts.{Put, decimal_text, bits_text}
-use Rattle.texts.proofs.PutLaws.{put_then}
-use borrow.Author.Tests.{lt-ltb, le-ltb}
-use mir.Val.{of_z}
-use mir.Syntax.{w16}
-use mathlib.Core.List.{◌∷◌}
-use mathlib.Core.Path.{subst, ◌≡◌, ap, ◌∙◌}
-use Prim.Native.Nat.{◌-◌, ◌≤◌, ◌<◌}
+use mathlib.Core.Path.{sym, ◌∙◌}
+use mathlib.Core.Bool.{cond}
+use mathlib.Core.List.{[], ◌∷◌}
+use Rattle.std.specs.Int.{is_negative}
+use Rattle.std.proofs.lemmas.Int.{to_z-of_z}
+use Rattle.texts.specs.Texts.{Put}
+use Rattle.texts.proofs.PutLaws.{put_none, put_then, put_as, put_yes, put_no}
+use Rattle.texts.proofs.TextLaws.{signed_is}
 use Rattle.texts.proofs.text.put_signed.Goals as goal
-
-pub returns-then-bits-lt32768 : goal.returns-then-bits-lt32768
-unfolding bits_text
-returns-then-bits-lt32768 c =
-    let bits : c.bits16-bits.result ≡ of_z w16 c.args.number = c.bits16-bits.ensures ∙ ap (of_z w16)
-    (to_z-of_z c.ranges.number) in
-    rw (lt-ltb (of_z w16 c.args.number) 32768 (subst (λ n. n < 32768) bits c.if-bits-lt32768.true))
-    (subst (λ n. Put (decimal_text n) c.args.out.now c.args.at c.put_decimal.new.out
-    c.put_decimal.result) bits c.put_decimal.ensures)
+use Rattle.texts.proofs.text.put_signed.Goals.{then-is_negative, else-is_negative}
 
 pub returns : goal.returns
-unfolding bits_text
 returns c =
-    let bits : c.bits16-bits.result ≡ of_z w16 c.args.number = c.bits16-bits.ensures ∙ ap (of_z w16)
-    (to_z-of_z c.ranges.number) in
-    rw (le-ltb (of_z w16 c.args.number) 32768 (subst (λ n. 32768 ≤ n) bits c.if-bits-lt32768.false))
-    (subst (λ n. Put (45 ∷ decimal_text (65536 - n)) c.args.out.now c.args.at
-    c.put_decimal-2.new.out c.put_decimal-2.result) bits
-    (put_then c.put-next.ensures c.put_decimal-2.ensures))
+    let z = c.args.number in
+    let fits = c.ranges.number in
+    let negative = simp to_z-of_z at c.is_negative.ensures in
+    let size = simp to_z-of_z at c.unsigned_abs.ensures.value in
+    let sign : Put (cond (is_negative z) (45 ∷ []) []) c.args.out.now c.args.at c.if-is_negative.out c.if-is_negative.next =
+    elim c.if-is_negative.branch [
+      | then-is_negative w ↦ simp (w.out-is, w.next-is) (put_yes _ _ _ (sym negative ∙ w.if-is_negative.true) w.put-next.ensures)
+      | else-is_negative w ↦ simp (w.out-is, w.next-is) (put_no _ _ _ (sym negative ∙ w.if-is_negative.false) (put_none _ _))
+    ] in
+    put_as (signed_is z _ fits (cc)) (put_then sign c.put_decimal.ensures)

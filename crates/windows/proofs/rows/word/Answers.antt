@@ -1,26 +1,12 @@
--- `word` meets its contract. The invariant: the bytes from j on are in. The measure is j.
+-- `word` meets its contract: the library's number has the bits of the bytes.
 -- Assumes nothing.
-use Prim.Native.Nat.{◌-◌}
-use native.Mathlib.Omega.{arith}
-use Rattle.windows.proofs.ByteLaws.{joined_none, joined_more, joined_all}
+use mathlib.Core.Path.{◌≡◌}
+use borrow.Author.Rules.{rules}
+use Rattle.windows.proofs.ByteLaws.{bytes_word}
 use Rattle.windows.proofs.rows.word.Goals as goal
 
-pub loop-j-init : goal.loop-j-init
-loop-j-init c = joined_none _
-
-pub overflow_sub-j : goal.overflow_sub-j
-overflow_sub-j c = omega arith
-
-pub bounds-bytes-j : goal.bounds-bytes-j
-bounds-bytes-j c = omega arith
-
-pub loop-j-smaller : goal.loop-j-smaller
-loop-j-smaller c = omega arith
-
-pub loop-j-preserved : goal.loop-j-preserved
-loop-j-preserved c =
-    joined_more c.loop-j.invariant c.loop-j-test.true
-    (omega (arith, c.type_inv.bytes (c.loop-j.j - 1)))
-
 pub returns : goal.returns
-returns c = joined_all c.loop-j.invariant c.loop-j-test.false
+returns c =
+    let same : c.unwrap.result ≡ c.args.bytes.now = search rules in
+    bytes_word c.args.bytes.now c.requires (λ i. (c.type_inv.bytes i).fits) c.from_le_bytes.type_inv
+    (rw same at c.from_le_bytes.ensures)

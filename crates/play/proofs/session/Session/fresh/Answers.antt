@@ -18,6 +18,5 @@ returns c =
       length = refl;
       answer = refl;
       at = refl;
-      ended = refl;
-      failed = refl;
+      progress = refl;
     }

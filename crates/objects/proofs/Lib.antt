@@ -1,0 +1,3 @@
+-- Laws of reads and writes.
+-- Assumes nothing.
+pub mod AccessLaws
