@@ -2,7 +2,9 @@
 #![tactic(auto)]
 
 ghost use Rattle.std.specs.Prelude.{◌≡◌, ◌++◌};
+ghost use Rattle.profile.specs.Answers.{read_answer, sample_answer, buffer_answer};
 ghost use Rattle.profile.specs.Entries.{home_of};
+ghost use Rattle.profile.specs.Numbers.{number_answered};
 ghost use Rattle.words.specs.Ascii.{ascii};
 ghost use Rattle.texts.specs.Texts.{Put, bytes_text, decimal_text};
 ghost use Rattle.answers.specs.Answers.{number_text, end_text, lines_text, entry_text, direction_text, place_in_mapping, mapping_text};
@@ -11,12 +13,13 @@ ghost use Rattle.answers.specs.Answers.{receive_end, receive_line, frame_end, fr
 
 use crate::tables::{attribute, meaning, wanted};
 use dictionary::entries::find;
-use profile::Home;
+use profile::refusals::Refusal;
+use profile::{Home, ReadValue};
 use texts::text::{
     put, put_all, put_bytes, put_decimal, put_each_word, put_long_hex, put_numbers, put_places,
 };
 use words::Expected;
-use words::items::first_bytes;
+use words::items::first_items;
 
 // The tables of words.
 pub mod tables;
@@ -32,10 +35,21 @@ pub fn put_number(out: &mut [u8], at: usize, number: u32) -> usize
     put_long_hex(out, at, number)
 }
 
-// A call that answers its number alone.
-pub fn put_plain(out: &mut [u8], at: usize, number: u32) -> usize
-    ensures { Put (plain_line number) out.old at out.new result }
+// The number of a refusal, 0 where the call is accepted.
+fn number_of<T: Drop>(answer: Result<T, Refusal>) -> u32
+    ensures { result ≡ number_answered answer }
 {
+    match answer {
+        Ok(_) => 0,
+        Err(refusal) => refusal.number(),
+    }
+}
+
+// A call that answers its number alone.
+pub fn put_plain(out: &mut [u8], at: usize, answer: Result<(), Refusal>) -> usize
+    ensures { Put (plain_line (number_answered answer)) out.old at out.new result }
+{
+    let number = number_of(answer);
     let next = put_number(out, at, number);
     end(out, next, number)
 }
@@ -45,56 +59,79 @@ pub fn put_plain(out: &mut [u8], at: usize, number: u32) -> usize
 pub fn put_read(
     out: &mut [u8],
     at: usize,
-    number: u32,
-    value: u32,
-    size: usize,
+    answer: Result<ReadValue, Refusal>,
     index: u16,
     sub: u8,
 ) -> usize
-    ensures { Put (read_line number value size index sub) out.old at out.new result }
+    ensures { Put (read_line (read_answer answer).number (read_answer answer).value (read_answer answer).size index sub)
+        out.old at out.new result }
 {
-    if number != 0 {
-        return put_plain(out, at, number);
+    match answer {
+        Ok(read) => {
+            let next = put_all(out, at, b"0 =");
+            let last = put_bytes(out, next, first_items(&read.value.to_le_bytes(), read.size));
+            end_access(out, last, index, sub)
+        }
+        Err(refusal) => put_plain(out, at, Err(refusal)),
     }
-    let next = put_all(out, at, b"0 =");
-    let last = put_bytes(out, next, first_bytes(&value.to_le_bytes(), size));
-    end_access(out, last, index, sub)
 }
 
 #[tactic(auto, using(texts::proofs::PutLaws::put_then), unfolding(crate::specs::Answers::write_line))]
-pub fn put_write(out: &mut [u8], at: usize, number: u32, index: u16, sub: u8) -> usize
-    ensures { Put (write_line number index sub) out.old at out.new result }
+pub fn put_write(
+    out: &mut [u8],
+    at: usize,
+    answer: Result<(), Refusal>,
+    index: u16,
+    sub: u8,
+) -> usize
+    ensures { Put (write_line (number_answered answer) index sub) out.old at out.new result }
 {
-    if number != 0 {
-        return put_plain(out, at, number);
+    match answer {
+        Ok(()) => {
+            let next = put(out, at, b'0');
+            end_access(out, next, index, sub)
+        }
+        Err(refusal) => put_plain(out, at, Err(refusal)),
     }
-    let next = put(out, at, b'0');
-    end_access(out, next, index, sub)
 }
 
-pub fn put_sample(out: &mut [u8], at: usize, number: u32, events: &[u8], channels: u16) -> usize
-    ensures { Put (sample_line number events.now channels) out.old at out.new result }
+pub fn put_sample(
+    out: &mut [u8],
+    at: usize,
+    answer: Result<u16, Refusal>,
+    events: &[u8],
+) -> usize
+    ensures { Put (sample_line (sample_answer answer events.now).number events.now (sample_answer answer events.now).events)
+        out.old at out.new result }
 {
+    let number = number_of(answer);
     let first = put_buffer(out, at, number, b" events", events);
     let second = put_all(out, first, b" /");
-    let last = put_places(out, second, channels);
+    let last = put_places(out, second, answer.unwrap_or(0));
     end(out, last, number)
 }
 
-pub fn put_drive(out: &mut [u8], at: usize, number: u32, lines: &[u8], channels: &[i16]) -> usize
-    ensures { Put (drive_line number lines.now channels.now) out.old at out.new result }
+pub fn put_drive(
+    out: &mut [u8],
+    at: usize,
+    answer: Result<(), Refusal>,
+    lines: &[u8],
+    channels: &[i16],
+) -> usize
+    ensures { Put (drive_line (number_answered answer) lines.now channels.now) out.old at out.new result }
 {
+    let number = number_of(answer);
     let first = put_buffer(out, at, number, b" lines", lines);
     let second = put_all(out, first, b" /");
     let last = put_numbers(out, second, channels);
     end(out, last, number)
 }
 
-// A receive, in a node that is operational or not, by a frame that is as long as its mapping or not.
-pub fn put_receive(out: &mut [u8], at: usize, number: u32, active: bool, long: bool) -> usize
-    ensures { Put (receive_line number active long) out.old at out.new result }
+// A receive, in a node that is operational or not, by a frame that is as long as its mapping or not; it is never refused.
+pub fn put_receive(out: &mut [u8], at: usize, active: bool, long: bool) -> usize
+    ensures { Put (receive_line 0 active long) out.old at out.new result }
 {
-    let next = put_number(out, at, number);
+    let next = put_number(out, at, 0);
     put_all(out, next, receive_end(active, long))
 }
 
@@ -112,26 +149,26 @@ fn receive_end(active: bool, long: bool) -> &'static [u8]
 pub fn put_frame(
     out: &mut [u8],
     at: usize,
-    number: u32,
+    answer: Result<usize, Refusal>,
     frame: &[u8],
-    count: usize,
     active: bool,
 ) -> usize
-    ensures { Put (frame_line number frame.now count active) out.old at out.new result }
+    ensures { Put (frame_line (buffer_answer answer frame.now).number frame.now (buffer_answer answer frame.now).count active)
+        out.old at out.new result }
 {
-    let next = put_counted(out, at, number, b" frame", frame, count);
-    put_all(out, next, frame_end(number, active))
+    let next = put_counted(out, at, answer, b" frame", frame);
+    put_all(out, next, frame_end(answer, active))
 }
 
 // A transmit has one refusal, whose number means the event buffer elsewhere.
-#[tactic(auto, unfolding(crate::specs::Answers::frame_end))]
-fn frame_end(number: u32, active: bool) -> &'static [u8]
-    ensures { result.now ≡ frame_end number active }
+#[tactic(auto, using(profile::proofs::AnswerLaws::nonzero), unfolding(crate::specs::Answers::frame_end))]
+fn frame_end(answer: Result<usize, Refusal>, active: bool) -> &'static [u8]
+    ensures { result.now ≡ frame_end (number_answered answer) active }
 {
-    match (number, active) {
-        (0, true) => b"\n",
-        (0, false) => b" (node not operational)\n",
-        _ => b" (frame buffer not 8 bytes)\n",
+    match (answer, active) {
+        (Ok(_), true) => b"\n",
+        (Ok(_), false) => b" (node not operational)\n",
+        (Err(_), _) => b" (frame buffer not 8 bytes)\n",
     }
 }
 
@@ -144,19 +181,19 @@ fn put_buffer(out: &mut [u8], at: usize, number: u32, word: &[u8], buffer: &[u8]
     put_bytes(out, second, buffer)
 }
 
-// The same, and a count.
+// The same, and a count, which is 0 where the call is refused.
 pub fn put_counted(
     out: &mut [u8],
     at: usize,
-    number: u32,
+    answer: Result<usize, Refusal>,
     word: &[u8],
     buffer: &[u8],
-    count: usize,
 ) -> usize
-    ensures { Put (number_text number ++ word.now ++ bytes_text buffer.now ++ ascii " / " ++ decimal_text count)
-        out.old at out.new result }
+    ensures { Put (number_text (buffer_answer answer buffer.now).number ++ word.now ++ bytes_text buffer.now
+        ++ ascii " / " ++ decimal_text (buffer_answer answer buffer.now).count) out.old at out.new result }
 {
-    let first = put_buffer(out, at, number, word, buffer);
+    let count = answer.unwrap_or(0);
+    let first = put_buffer(out, at, number_of(answer), word, buffer);
     let second = put_all(out, first, b" / ");
     put_decimal(out, second, count as u64)
 }
@@ -178,7 +215,10 @@ fn end(out: &mut [u8], at: usize, number: u32) -> usize
 pub fn end_access(out: &mut [u8], at: usize, index: u16, sub: u8) -> usize
     ensures { Put (entry_text (home_of index sub)) out.old at out.new result }
 {
-    match find(index, sub).home {
+    let Ok(entry) = find(index, sub) else {
+        return put(out, at, b'\n');
+    };
+    match entry.home {
         Home::Window(row, width, place) => {
             let first = put_all(out, at, b" (");
             let second = put_all(out, first, attribute(row));

@@ -2,10 +2,7 @@
 ghost use Rattle.std.specs.Prelude.{◌≡◌};
 ghost use Rattle.answers.specs.Answers.{refusal_text, attribute_text, expected_text};
 
-use dictionary::refusals::{
-    COUNT_NOT_ZERO, MAPPING_TOO_LONG, NO_OBJECT, NO_REQUEST, NO_SUB_INDEX, NOT_ALLOWED,
-    NOT_MAPPABLE, READ_ONLY, STOPPED, TOO_HIGH, TOO_LONG, TOO_LOW, TOO_SHORT,
-};
+use dictionary::refusals::NO_REQUEST;
 use words::Expected;
 
 // An attribute of the digital lines.
@@ -40,18 +37,18 @@ pub fn meaning(number: u32) -> &'static [u8]
         4 => b"not 16 analogue numbers",
         5 => b"event buffer not 16 bytes",
         6 => b"not 16 bytes and 8 numbers",
-        STOPPED => b"node stopped",
-        NO_OBJECT => b"no such object",
-        NO_SUB_INDEX => b"no such sub-index",
-        READ_ONLY => b"read only",
-        TOO_LONG => b"data too long",
-        TOO_SHORT => b"data too short",
-        NOT_ALLOWED => b"value not allowed",
-        TOO_HIGH => b"value too high",
-        TOO_LOW => b"value too low",
-        COUNT_NOT_ZERO => b"count is not 0",
-        NOT_MAPPABLE => b"entry cannot be mapped",
-        MAPPING_TOO_LONG => b"more than 8 entries or 64 bits",
+        0x0800_0022 => b"node stopped",
+        0x0602_0000 => b"no such object",
+        0x0609_0011 => b"no such sub-index",
+        0x0601_0002 => b"read only",
+        0x0607_0012 => b"data too long",
+        0x0607_0013 => b"data too short",
+        0x0609_0030 => b"value not allowed",
+        0x0609_0031 => b"value too high",
+        0x0609_0032 => b"value too low",
+        0x0601_0000 => b"count is not 0",
+        0x0604_0041 => b"entry cannot be mapped",
+        0x0604_0042 => b"more than 8 entries or 64 bits",
         NO_REQUEST => b"no such request",
         _ => b"refused",
     }

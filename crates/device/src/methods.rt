@@ -4,15 +4,24 @@ ghost use Rattle.profile.specs.Calls.{Plain, direct};
 ghost use Rattle.device.specs.Promises.{CreatedAs, Ensured};
 
 use crate::{Answer, Device};
+use channels::fields::{DELTAS, FLAGS, LIMITS, OCTETS, VALUES};
 use profile::{Cause, ReadValue};
 use store::Store;
+use windows::WORDS;
 
 impl Device {
     // A refused node number gives a device with node number 127.
     pub fn create(number: u8) -> Answer<()>
         ensures { CreatedAs number result.answer result.device }
     {
-        let mut store = Store::EMPTY;
+        let mut store = Store {
+            octets: [0; OCTETS],
+            flags: [false; FLAGS],
+            words: [0; WORDS],
+            limits: [0; LIMITS],
+            deltas: [0; DELTAS],
+            values: [0; VALUES],
+        };
         let answer = network::create(&mut store, number);
         let device = Device { store };
         Answer { answer, device }

@@ -2,11 +2,14 @@
 #![tactic(auto)]
 
 ghost use Rattle.std.specs.Prelude.{◌≡◌};
+ghost use Rattle.profile.specs.Answers.{buffer_answer};
+ghost use Rattle.profile.specs.Numbers.{refusal_number};
 ghost use Rattle.texts.specs.Texts.{Put};
 ghost use Rattle.frame_answers.specs.FrameAnswers.{refused_end, silent_end, abort_end, replied_end, reply_end, reply_line};
 
 use answers::tables::meaning;
 use answers::{end_access, put_counted};
+use profile::refusals::Refusal;
 use server_frames::requests::{aborts, code_in, index_in, sub_in};
 use texts::text::{put, put_all};
 
@@ -14,46 +17,43 @@ use texts::text::{put, put_all};
 pub fn put_reply(
     out: &mut [u8],
     at: usize,
-    number: u32,
+    answer: Result<usize, Refusal>,
     reply: &[u8],
-    count: usize,
     stopped: bool,
 ) -> usize
-    ensures { Put (reply_line number reply.now count stopped) out.old at out.new result }
+    ensures { Put (reply_line (buffer_answer answer reply.now).number reply.now (buffer_answer answer reply.now).count stopped)
+        out.old at out.new result }
 {
-    let next = put_counted(out, at, number, b" reply", reply, count);
-    end_reply(out, next, number, reply, count, stopped)
+    let next = put_counted(out, at, answer, b" reply", reply);
+    end_reply(out, next, answer, reply, stopped)
 }
 
-#[tactic(auto, unfolding(crate::specs::FrameAnswers::reply_end))]
+#[tactic(auto, using(profile::proofs::AnswerLaws::nonzero), unfolding(crate::specs::FrameAnswers::reply_end))]
 fn end_reply(
     out: &mut [u8],
     at: usize,
-    number: u32,
+    answer: Result<usize, Refusal>,
     reply: &[u8],
-    count: usize,
     stopped: bool,
 ) -> usize
-    ensures { Put (reply_end number reply.now count stopped) out.old at out.new result }
+    ensures { Put (reply_end (buffer_answer answer reply.now).number reply.now (buffer_answer answer reply.now).count stopped)
+        out.old at out.new result }
 {
-    if number != 0 {
-        return put_all(out, at, refused_end(number));
+    match answer {
+        Ok(0) => put_all(out, at, silent_end(stopped)),
+        Ok(_) => end_replied(out, at, reply),
+        Err(refusal) => put_all(out, at, refused_end(refusal)),
     }
-    if count == 0 {
-        return put_all(out, at, silent_end(stopped));
-    }
-    end_replied(out, at, reply)
 }
 
 // The numbers of a request's two refusals mean other things elsewhere.
 #[tactic(auto, unfolding(crate::specs::FrameAnswers::refused_end))]
-fn refused_end(number: u32) -> &'static [u8]
-    ensures { result.now ≡ refused_end number }
+fn refused_end(refusal: Refusal) -> &'static [u8]
+    ensures { result.now ≡ refused_end (refusal_number refusal) }
 {
-    if number == 7 {
-        b" (request not 8 bytes)\n"
-    } else {
-        b" (reply buffer not 8 bytes)\n"
+    match refusal {
+        Refusal::RequestLength => b" (request not 8 bytes)\n",
+        _ => b" (reply buffer not 8 bytes)\n",
     }
 }
 

@@ -1,6 +1,3 @@
 -- Laws of what a line means, by what the reader finds of it.
 -- Assumes nothing.
-pub mod MeaningLaws
-pub mod AccessLaws
-pub mod MessageLaws
-pub mod LastLaws
+pub mod Laws

@@ -2,19 +2,17 @@
 ghost use Rattle.notation.specs.Promises.{ReadLast};
 
 use words::Expected;
-use words::items::{Items, read_bytes};
-use words::split::{back, is_blank};
+use words::items::read_items;
+use words::split::is_blank;
 
-pub fn last_bytes(rest: &[u8], out: &mut [u8]) -> Items
+// How many bytes there are.
+#[tactic(auto, using(crate::proofs::Laws::next))]
+pub fn last_bytes(rest: &[u8], out: &mut [u8]) -> Result<usize, Expected>
     ensures { ReadLast rest.now out.new result }
 {
-    match read_bytes(rest, out) {
-        Items::Unknown(expected) => Items::Unknown(expected),
-        Items::Read(count, used) => {
-            if !is_blank(back(rest, used)) {
-                return Items::Unknown(Expected::Byte);
-            }
-            Items::Read(count, used)
-        }
+    let bytes = read_items(rest, out)?;
+    if !is_blank(bytes.rest) {
+        return Err(Expected::Byte);
     }
+    Ok(bytes.count)
 }

@@ -2,7 +2,6 @@
 #![tactic(auto)]
 
 use profile::{Cause, Message};
-use words::Expected;
 
 // Bytes up to a line's end.
 mod bytes;
@@ -10,6 +9,8 @@ mod bytes;
 pub mod calls;
 // A receive or a transmit, by the words after it.
 mod messages;
+// A number, a slash or the end, as the next thing in a line.
+mod parts;
 // A request, by the words after it.
 mod requests;
 
@@ -18,8 +19,6 @@ mod requests;
 pub enum Call {
     // An empty line, or a comment.
     Nothing,
-    // No call.
-    Unknown(Expected),
     // Node number.
     Create(u8),
     // Index, sub-index.

@@ -1,7 +1,7 @@
 -- The items of a line's words, read one after the other into a buffer.
 -- Assumes nothing.
-use mathlib.Core.Path.{◌≡◌, refl, sym, ap, subst, ◌∙◌}
-use mathlib.Core.Bool.{Bool, true, false, cond, ◌||◌}
+use mathlib.Core.Path.{◌≡◌, refl, sym, ap, ◌∙◌}
+use mathlib.Core.Bool.{Bool, true, false, ◌||◌}
 use mathlib.Core.List.{List, [], ◌∷◌, ◌++◌, append-nil, append_assoc}
 use Prim.Native.Nat.{ℕ, zero, suc, ◌+◌, ◌-◌, ◌≤◌, ◌<◌}
 use native.Mathlib.Numerals.{add-one}
@@ -9,36 +9,27 @@ use native.Mathlib.Omega.{arith}
 use lib.Dec.{eqb}
 use lib.ListN.{length, take, drop, set, length-drop, length-set}
 use lib.Seq.{take-suc-set, drop-drop}
-use borrow.Author.Tests.{lt-ltb, le-ltb, eqb-true, eqb-false}
+use borrow.Author.Tests.{eqb-true, eqb-false}
+use Rattle.std.proofs.Common.{Ok, Err}
+use Rattle.std.proofs.lemmas.Bool.Decides.{nat_tests}
 use Rattle.words.specs.declared.Expected.{Expected}
 use Rattle.words.specs.declared.Expected.TheVariants as Ex
-use Rattle.words.specs.Words.{words_of, first_word, after_word, WordEnd, is_word}
-use Rattle.words.specs.Items.{Item, Found, slash, is_over, with_item, items_of, InBuffer}
+use Rattle.words.specs.Words.{run, spaces, words_of, word_end, first_word, after_word, is_word}
+use Rattle.words.specs.Items.{Item, Found, slash, is_over, read_as, with_item, items_of, InBuffer}
 use Rattle.words.specs.Items.Found.{items, missing}
+use Rattle.words.proofs.RunLaws.{run_within}
 use Rattle.words.proofs.SplitLaws.{words_none, words_more}
 
--- no item is over
-over : (l word : List ℕ) (t s : Bool) → word ≡ first_word l → eqb (length word) 0 ≡ t → s ≡ is_word word slash → (t || s) ≡ is_over (words_of l)
-over l word true s p e q = sym (ap is_over (words_none l (sym (ap length p) ∙ eqb-true (length word) 0 e)))
-over l word false s p e q =
-    let n : length (first_word l) ≡ 0 → ⊥ = λ z. eqb-false (length word) 0 e (ap length p ∙ z) in
-    q ∙ ap (λ (w : List ℕ). is_word w slash) p ∙ sym (ap is_over (words_more l n))
+-- no item follows where no word is left, or the first is a `/`
+pub over_is : (l : List ℕ) → is_over (words_of l) ≡ (eqb (length (first_word l)) 0 || is_word (first_word l) slash)
+over_is l = at (eqb (length (first_word l)) 0) refl
+  where
+    at : (t : Bool) → eqb (length (first_word l)) 0 ≡ t → is_over (words_of l) ≡ (t || is_word (first_word l) slash)
+    at true e = ap is_over (words_none l (eqb-true (length (first_word l)) 0 e))
+    at false e = ap is_over (words_more l (eqb-false (length (first_word l)) 0 e))
 
-pub over_is : (l word : List ℕ) (s : Bool) → word ≡ first_word l → s ≡ is_word word slash → (eqb (length word) 0 || s) ≡ is_over (words_of l)
-over_is l word s p q = over l word (eqb (length word) 0) s p refl q
-
--- the same of two parts that are one
-pub over_there : (a b d : List ℕ) (r : Bool) → a ≡ d → b ≡ d → r ≡ is_over (words_of a) → r ≡ false → is_over (words_of b) ≡ false
-over_there a b d r p q is e = ap (λ (l : List ℕ). is_over (words_of l)) (q ∙ sym p) ∙ sym is ∙ e
-
-unlike : ◌≡◌ {A = Bool} true false → ⊥
-unlike e = let z : ◌≡◌ {A = ℕ} 1 0 = ap (λ (t : Bool). cond t 1 0) e in absurd (omega (arith, z))
-
-pub not_over : (l : List ℕ) → is_over (words_of l) ≡ false → length (first_word l) ≡ 0 → ⊥
-not_over l e z = unlike (sym (ap is_over (words_none l z)) ∙ e)
-
-not_slash : (l : List ℕ) → is_over (words_of l) ≡ false → is_word (first_word l) slash ≡ false
-not_slash l e = sym (ap is_over (words_more l (not_over l e))) ∙ e
+pub not_over : (l : List ℕ) → is_over (words_of l) ≡ false → (length (first_word l) ≡ 0 → ⊥) × (is_word (first_word l) slash ≡ false)
+not_over l e = let o = over_is l in (λ z. grind (arith, nat_tests), grind (arith, nat_tests))
 
 module _ {A : Type 0} where
   -- items in front of what is found
@@ -60,94 +51,91 @@ module _ {A : Type 0} (k : Item A) where
   items_over zero (w ∷ ws) e = rw e
   items_over (suc n) (w ∷ ws) e = rw e
 
-  items_wrong : (n : ℕ) (w : List ℕ) (ws : List (List ℕ)) → is_word w slash ≡ false → k.most < k.number w → items_of k n
-      (w ∷ ws) ≡ missing k.expected
-  items_wrong zero w ws e h = rw (e, lt-ltb k.most (k.number w) h)
-  items_wrong (suc n) w ws e h = rw (e, lt-ltb k.most (k.number w) h)
+  module _ (w : List ℕ) (ws : List (List ℕ)) (on : is_word w slash ≡ false) where
+    items_wrong : (n : ℕ) (e : Expected) → read_as k w ≡ Err e → items_of k n (w ∷ ws) ≡ missing e
+    items_wrong zero e r = grind (arith, nat_tests)
+    items_wrong (suc n) e r = grind (arith, nat_tests)
 
-  items_full : (w : List ℕ) (ws : List (List ℕ)) → is_word w slash ≡ false → k.number w ≤ k.most → items_of k 0 (w ∷ ws) ≡ missing Ex.Fewer
-  items_full w ws e h = rw (e, le-ltb k.most (k.number w) h)
+    items_full : (x : A) → read_as k w ≡ Ok x → items_of k 0 (w ∷ ws) ≡ missing Ex.Fewer
+    items_full x r = grind (arith, nat_tests)
 
-  items_more : (n : ℕ) (w : List ℕ) (ws : List (List ℕ)) → is_word w slash ≡ false → k.number w ≤ k.most → items_of k (suc n)
-      (w ∷ ws) ≡ with_item (k.value (k.number w)) (items_of k n ws)
-  items_more n w ws e h = rw (e, le-ltb k.most (k.number w) h)
+    items_more : (n : ℕ) (x : A) → read_as k w ≡ Ok x → items_of k (suc n) (w ∷ ws) ≡ with_item x (items_of k n ws)
+    items_more n x r = grind (arith, nat_tests)
 
--- the first `count` elements of the buffer are the items of the words before `at`
-pub record Reading {A : Type 0} (k : Item A) (line : List ℕ) (out : List A) (count at : ℕ) : Type 0 where
-  pub found : items_of k (length out) (words_of line) ≡ onto (take count out) (items_of k (length out - count) (words_of (drop at line)))
+-- the first `count` elements of the buffer are the items of the words before `rest`
+pub record Reading {A : Type 0} (k : Item A) (line : List ℕ) (out : List A) (count : ℕ) (rest : List ℕ) : Type 0 where
+  pub found : items_of k (length out) (words_of line) ≡ onto (take count out) (items_of k (length out - count) (words_of rest))
   pub room : count ≤ length out
-  pub within : at ≤ length line
+  pub behind : rest ≡ drop (length line - length rest) line
+
+-- the end of a line goes on past its first word
+ends_on : (line rest : List ℕ) → rest ≡ drop (length line - length rest) line
+    → after_word rest ≡ drop (length line - length (after_word rest)) line
+unfolding after_word word_end
+ends_on line rest e =
+    let n = spaces rest in
+    let m = run false 32 (drop n rest) in
+    let whole : length rest ≤ length line = omega (arith, ap length e, length-drop (length line - length rest) line) in
+    let in-word : m ≤ length (drop n rest) = run_within false 32 (drop n rest) in
+    let in-line : n ≤ length rest = run_within true 32 rest in
+    ap (drop (n + m)) e ∙ drop-drop (n + m) (length line - length rest) line
+    ∙ ap (λ i. drop i line) (omega (arith, length-drop n rest, length-drop (n + m) rest))
 
 module _ {A : Type 0} (k : Item A) (line : List ℕ) (out : List A) where
-  pub reading_none : Reading k line out 0 0
+  pub reading_none : Reading k line out 0 line
   reading_none = record {
-    found = sym (onto_none (items_of k (length out) (words_of line))) ∙ ap (λ n. onto [] (items_of k n (words_of line))) (omega arith);
+    found = let all : length out ≡ length out - 0 = omega arith in
+        sym (onto_none (items_of k (length out) (words_of line))) ∙ ap (λ n. onto [] (items_of k n (words_of line))) all;
     room = omega arith;
-    within = omega arith;
+    behind = let none : 0 ≡ length line - length line = omega arith in ap (λ n. drop n line) none;
   }
 
-module _ {A : Type 0} (k : Item A) (line : List ℕ) (out : List A) (count at : ℕ) (so : Reading k line out count at) (rest : List ℕ)
-    (is : rest ≡ drop at line) where
-  pub reading_over : is_over (words_of rest) ≡ true → InBuffer k line out count at
+module _ {A : Type 0} (k : Item A) (line : List ℕ) (out : List A) (count : ℕ) (rest : List ℕ) (so : Reading k line out count rest) where
+  pub reading_over : is_over (words_of rest) ≡ true → InBuffer k line out count rest
   reading_over e = record {
-    found = so.found ∙ ap (onto (take count out))
-        (items_over k (length out - count) (words_of (drop at line)) (sym (ap (λ (l : List ℕ). is_over (words_of l)) is) ∙ e)) ∙ ap
-        (λ (l : List A). items l (words_of (drop at line))) (append-nil (take count out));
+    found = so.found ∙ ap (onto (take count out)) (items_over k (length out - count) (words_of rest) e) ∙ ap
+        (λ (l : List A). items l (words_of rest)) (append-nil (take count out));
     room = so.room;
-    within = so.within;
+    behind = so.behind;
   }
 
-  words_here : is_over (words_of rest) ≡ false → words_of (drop at line) ≡ first_word rest ∷ words_of (after_word rest)
-  words_here e = sym (ap words_of is) ∙ words_more rest (not_over rest e)
+  module _ (on : is_over (words_of rest) ≡ false) where
+    here : items_of k (length out) (words_of line)
+        ≡ onto (take count out) (items_of k (length out - count) (first_word rest ∷ words_of (after_word rest)))
+    here = so.found ∙ ap (λ ws. onto (take count out) (items_of k (length out - count) ws)) (words_more rest (not_over rest on).0)
 
-  pub reading_wrong : (n : ℕ) → is_over (words_of rest) ≡ false → n ≡ k.number (first_word rest) → k.most < n → items_of k (length out)
-      (words_of line) ≡ missing k.expected
-  reading_wrong n e p h =
-      so.found
-      ∙ ap (λ (ws : List (List ℕ)). onto (take count out) (items_of k (length out - count) ws)) (words_here e)
-      ∙ ap (onto (take count out))
-      (items_wrong k (length out - count) (first_word rest) (words_of (after_word rest)) (not_slash rest e) (subst (λ x. k.most < x) p h))
+    pub reading_wrong : (e : Expected) → read_as k (first_word rest) ≡ Err e → items_of k (length out) (words_of line) ≡ missing e
+    reading_wrong e r = here ∙ ap (onto (take count out))
+        (items_wrong k (first_word rest) (words_of (after_word rest)) (not_over rest on).1 (length out - count) e r)
 
-  pub reading_full : (n : ℕ) → is_over (words_of rest) ≡ false → n ≡ k.number (first_word rest) → n ≤ k.most → length out ≤ count
-      → items_of k (length out) (words_of line) ≡ missing Ex.Fewer
-  reading_full n e p h full =
-      let none : length out - count ≡ 0 = omega arith in
-      so.found
-      ∙ ap (λ (ws : List (List ℕ)). onto (take count out) (items_of k (length out - count) ws)) (words_here e)
-      ∙ ap (λ m. onto (take count out) (items_of k m (first_word rest ∷ words_of (after_word rest)))) none
-      ∙ ap (onto (take count out))
-      (items_full k (first_word rest) (words_of (after_word rest)) (not_slash rest e) (subst (λ x. x ≤ k.most) p h))
+    pub reading_full : (x : A) → read_as k (first_word rest) ≡ Ok x → length out ≤ count
+        → items_of k (length out) (words_of line) ≡ missing Ex.Fewer
+    reading_full x r full =
+        let none : length out - count ≡ 0 = omega arith in
+        here
+        ∙ ap (λ m. onto (take count out) (items_of k m (first_word rest ∷ words_of (after_word rest)))) none
+        ∙ ap (onto (take count out)) (items_full k (first_word rest) (words_of (after_word rest)) (not_over rest on).1 x r)
 
-  behind : (e : ℕ) → WordEnd rest e → words_of (after_word rest) ≡ words_of (drop (at + e) line)
-  unfolding after_word
-  behind e w = ap (λ m. words_of (drop m rest)) (sym w.is) ∙ ap (λ (l : List ℕ). words_of (drop e l)) is ∙ ap words_of (drop-drop e at line)
-
-  pub reading_more : (n e : ℕ) (v : A) → is_over (words_of rest) ≡ false → n ≡ k.number (first_word rest) → n ≤ k.most
-      → count < length out → v ≡ k.value n → WordEnd rest e →
-      Reading k line (set out count v) (count + 1) (at + e)
-  reading_more n e v o p h free q w =
-      let left : length out - count ≡ suc (length out - (count + 1)) = omega arith in
-      let same : length (set out count v) ≡ length out = length-set out count v in
-      let taken : take (count + 1) (set out count v) ≡ take count out ++ (v ∷ []) = ap (λ m. take m (set out count v)) (add-one count)
-      ∙ take-suc-set out count v free in
-      let value : k.value (k.number (first_word rest)) ≡ v = ap k.value (sym p) ∙ sym q in
-      record {
-        found =
-            ap (λ m. items_of k m (words_of line)) same
-            ∙ so.found
-            ∙ ap (λ (ws : List (List ℕ)). onto (take count out) (items_of k (length out - count) ws)) (words_here o)
-            ∙ ap (λ m. onto (take count out) (items_of k m (first_word rest ∷ words_of (after_word rest)))) left
-            ∙ ap (onto (take count out))
-            (items_more k (length out - (count + 1)) (first_word rest) (words_of (after_word rest)) (not_slash rest o)
-            (subst (λ x. x ≤ k.most) p h))
-            ∙ ap (λ (x : A). onto (take count out) (with_item x (items_of k (length out - (count + 1)) (words_of (after_word rest))))) value
-            ∙ onto_more (take count out) v (items_of k (length out - (count + 1)) (words_of (after_word rest)))
-            ∙ ap (λ (xs : List A). onto xs (items_of k (length out - (count + 1)) (words_of (after_word rest)))) (sym taken)
-            ∙ ap (λ (ws : List (List ℕ)). onto (take (count + 1) (set out count v)) (items_of k (length out - (count + 1)) ws)) (behind e w)
-            ∙ ap (λ m. onto (take (count + 1) (set out count v)) (items_of k (m - (count + 1)) (words_of (drop (at + e) line)))) (sym same);
-        room = omega (arith, same);
-        within = omega (arith, so.within, w.within, ap length is, length-drop at line);
-      }
+    pub reading_more : (x : A) → read_as k (first_word rest) ≡ Ok x → count < length out
+        → Reading k line (set out count x) (count + 1) (after_word rest)
+    reading_more x r free =
+        let left : length out - count ≡ suc (length out - (count + 1)) = omega arith in
+        let same : length (set out count x) ≡ length out = length-set out count x in
+        let taken : take (count + 1) (set out count x) ≡ take count out ++ (x ∷ []) = ap (λ m. take m (set out count x)) (add-one count)
+        ∙ take-suc-set out count x free in
+        record {
+          found =
+              ap (λ m. items_of k m (words_of line)) same
+              ∙ here
+              ∙ ap (λ m. onto (take count out) (items_of k m (first_word rest ∷ words_of (after_word rest)))) left
+              ∙ ap (onto (take count out))
+              (items_more k (first_word rest) (words_of (after_word rest)) (not_over rest on).1 (length out - (count + 1)) x r)
+              ∙ onto_more (take count out) x (items_of k (length out - (count + 1)) (words_of (after_word rest)))
+              ∙ ap (λ (xs : List A). onto xs (items_of k (length out - (count + 1)) (words_of (after_word rest)))) (sym taken)
+              ∙ ap (λ m. onto (take (count + 1) (set out count x)) (items_of k (m - (count + 1)) (words_of (after_word rest)))) (sym same);
+          room = omega (arith, same);
+          behind = ends_on line rest so.behind;
+        }
 
 -- where a list of items ends, the line ends or more words follow
 module _ {A : Type 0} (f : Found A) (xs : List A) (more : List ℕ) (is : f ≡ items xs (words_of more)) where
@@ -159,10 +147,9 @@ module _ {A : Type 0} (f : Found A) (xs : List A) (more : List ℕ) (is : f ≡ 
 
 -- what was read into a buffer of n elements
 module _ {A : Type 0} (k : Item A) (line : List ℕ) (out : List A) (n : ℕ) (long : length out ≡ n) where
-  pub read_found : (count used : ℕ) (more : List ℕ) → InBuffer k line out count used → more ≡ drop used line → items_of k n
-      (words_of line) ≡ items (take count out) (words_of more)
-  read_found count used more i e = ap (λ m. items_of k m (words_of line)) (sym long) ∙ i.found ∙ ap
-      (λ (l : List ℕ). items (take count out) (words_of l)) (sym e)
+  pub read_found : (count : ℕ) (rest : List ℕ) → InBuffer k line out count rest → items_of k n (words_of line) ≡ items (take count out)
+      (words_of rest)
+  read_found count rest i = ap (λ m. items_of k m (words_of line)) (sym long) ∙ i.found
 
   pub read_missing : (e : Expected) → items_of k (length out) (words_of line) ≡ missing e → items_of k n (words_of line) ≡ missing e
   read_missing e i = ap (λ m. items_of k m (words_of line)) (sym long) ∙ i

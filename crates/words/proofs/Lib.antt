@@ -1,7 +1,6 @@
 -- Laws of words, numbers and lists of them, that the crates above cite too.
 -- Assumes nothing.
 pub mod RunLaws
-pub mod WordLaws
 pub mod SplitLaws
 pub mod ExpectationLaws
 pub mod NumberLaws

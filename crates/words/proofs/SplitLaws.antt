@@ -6,6 +6,7 @@ use mathlib.Core.List.{List, [], ◌∷◌}
 use Prim.Native.Nat.{ℕ, suc, ◌+◌, ◌≤◌, ◌<◌}
 use native.Mathlib.Omega.{arith}
 use lib.Dec.{eqb}
+use lib.Pointwise.{pointwise}
 use lib.ListN.{length, take, drop, length-drop}
 use lib.Seq.{drop-drop, length-take-le}
 use borrow.Author.Tests.{eqb-true, eqb-false, eq-eqb}
@@ -151,3 +152,10 @@ same_word a b false h = at (is_word a b) refl
     at : (t : Bool) → is_word a b ≡ t → false ≡ t
     at true e = h.1 (is_word_eq a b e)
     at false e = refl
+
+-- the library's test of two texts and the test of two words
+pub is_word_is : (a b : List ℕ) → pointwise eqb a b ≡ is_word a b
+is_word_is [] [] = refl
+is_word_is [] (y ∷ b) = refl
+is_word_is (x ∷ a) [] = refl
+is_word_is (x ∷ a) (y ∷ b) = ap (λ t. eqb x y && t) (is_word_is a b)

@@ -1,12 +1,12 @@
 -- Lists of bytes and of numbers in a line, up to a `/` or the line's end.
 -- Assumes nothing.
-use Rattle.std.specs.Prelude.{◌≡◌, Bool, true, cond, List, [], ◌∷◌, ℕ, zero, suc, ◌≤◌, ltb, length, take, drop, ℤ}
+use Rattle.std.specs.Prelude.{◌≡◌, Bool, true, cond, List, [], ◌∷◌, ℕ, zero, suc, ◌-◌, ◌≤◌, ltb, length, take, drop, ℤ}
+use Rattle.std.specs.Prelude.{Result, Ok, Err}
 use Rattle.std.specs.Int.{w16}
 use Rattle.std.proofs.Common.{to_z}
 use Rattle.words.specs.declared.Expected.{Expected}
 use Rattle.words.specs.declared.Expected.TheVariants as Ex
 use Rattle.words.specs.declared.items.Items.{Items}
-use Rattle.words.specs.declared.items.Items.TheVariants as It
 use Rattle.words.specs.Ascii.{ascii}
 use Rattle.words.specs.Words.{words_of, is_word}
 use Rattle.words.specs.Numbers.{short_number, signed_of}
@@ -25,6 +25,10 @@ byte_item = record { number = short_number 2; most = 255; value = λ n. n; expec
 -- "signed analogue numbers (-32768 to 32767)"
 abbrev pub number_item : Item ℤ
 number_item = record { number = signed_of; most = 65535; value = to_z w16; expected = Ex.Signed }
+
+-- a word as an item, or what should have stood there
+abbrev pub read_as : {A : Type 0} → Item A → List ℕ → Result A Expected
+read_as k w = cond (ltb k.most (k.number w)) (Err k.expected) (Ok (k.value (k.number w)))
 
 abbrev pub slash : List ℕ
 slash = ascii "/"
@@ -54,12 +58,12 @@ items_of k (suc room) (w ∷ ws) =
     cond (is_word w slash) (items [] (w ∷ ws))
     (cond (ltb k.most (k.number w)) (missing k.expected) (with_item (k.value (k.number w)) (items_of k room ws)))
 
--- the first `count` elements of a buffer are the items of a line, which end at `used`
-pub record InBuffer {A : Type 0} (k : Item A) (line : List ℕ) (out : List A) (count used : ℕ) : Type 0 where
-  pub found : items_of k (length out) (words_of line) ≡ items (take count out) (words_of (drop used line))
+-- the first `count` elements of a buffer are the items of a line, and `rest` is the end of the line that follows them
+pub record InBuffer {A : Type 0} (k : Item A) (line : List ℕ) (out : List A) (count : ℕ) (rest : List ℕ) : Type 0 where
+  pub found : items_of k (length out) (words_of line) ≡ items (take count out) (words_of rest)
   pub room : count ≤ length out
-  pub within : used ≤ length line
+  pub behind : rest ≡ drop (length line - length rest) line
 
-abbrev pub ReadInto : {A : Type 0} → Item A → List ℕ → List A → Items → Type 0
-ReadInto k line out (It.Read count used) = InBuffer k line out count used
-ReadInto k line out (It.Unknown e) = items_of k (length out) (words_of line) ≡ missing e
+abbrev pub ReadInto : {A : Type 0} → Item A → List ℕ → List A → Result Items Expected → Type 0
+ReadInto k line out (Ok found) = InBuffer k line out found.count found.rest.now
+ReadInto k line out (Err e) = items_of k (length out) (words_of line) ≡ missing e

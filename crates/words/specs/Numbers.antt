@@ -1,6 +1,9 @@
 -- Numbers as digits spell them.
 -- Assumes nothing.
 use Rattle.std.specs.Prelude.{Bool, true, false, cond, ◌&&◌, List, [], ◌∷◌, ℕ, ◌+◌, ◌*◌, ◌-◌, eqb, ltb, length, drop, get_or}
+use Rattle.std.specs.Prelude.{Option, Some, None, ℤ}
+use Rattle.std.specs.Int.{w16}
+use Rattle.std.proofs.Common.{of_z}
 
 -- the value of a digit, `0` to `9`, `A` to `F` or `a` to `f`; 16 for any other byte
 unfoldable pub digit_of : ℕ → ℕ
@@ -50,3 +53,8 @@ plus n = cond (ltb 32767 n) 65536 n
 -- a decimal number from -32768 to 32767 as 16 bits in two's complement; 65,536 for any other word
 unfoldable pub signed_of : List ℕ → ℕ
 signed_of word = cond (eqb (get_or word 0 0) 45) (minus (number_of 10 (drop 1 word))) (plus (number_of 10 word))
+
+-- 16 bits in two's complement of a signed number; 65,536 for none
+abbrev pub bits_of : Option ℤ → ℕ
+bits_of (Some z) = of_z w16 z
+bits_of None = 65536

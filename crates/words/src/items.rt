@@ -1,87 +1,74 @@
 // Lists of bytes and of numbers in a line, up to a `/` or the line's end.
-ghost use Rattle.std.specs.Prelude.{◌≡◌, take};
+ghost use Rattle.std.specs.Prelude.{◌≡◌, take, ℤ};
 ghost use Rattle.words.specs.Words.{words_of};
-ghost use Rattle.words.specs.Items.{ReadInto, byte_item, number_item, is_over};
+ghost use Rattle.words.specs.Items.{Item, ReadInto, byte_item, number_item, read_as, is_over};
 
 use crate::Expected;
 use crate::numbers::{hexadecimal, signed};
-use crate::split::{back, first_word, word_end};
-use channels::numbers::signed16;
-use check::same;
+use crate::split::{after_word, first_word};
 
-// What reading a list finds.
-#[derive(Clone, Copy)]
-pub enum Items {
-    // How many, and how many bytes of the line they take.
-    Read(usize, usize),
-    Unknown(Expected),
+// What reading a list finds: how many items, and what is left of the line.
+#[derive(Clone, Copy, Debug, PartialEq, Eq)]
+pub struct Items<'a> {
+    pub count: usize,
+    pub rest: &'a [u8],
+}
+
+// What a list is made of.
+pub trait ListItem: Copy {
+    ghost kind: { Item Self };
+
+    fn read(word: &[u8]) -> Result<Self, Expected>
+        ensures { result ≡ read_as kind word.now };
+}
+
+impl ListItem for u8 {
+    ghost kind = { byte_item };
+
+    fn read(word: &[u8]) -> Result<u8, Expected> {
+        hexadecimal(word, 2)
+            .and_then(|n| u8::try_from(n).ok())
+            .ok_or(Expected::Byte)
+    }
+}
+
+impl ListItem for i16 {
+    ghost kind = { number_item };
+
+    fn read(word: &[u8]) -> Result<i16, Expected> {
+        signed(word).ok_or(Expected::Signed)
+    }
 }
 
 // No item follows: the line ends, or a `/` stands there.
+#[tactic(auto, using(crate::proofs::ItemLaws::over_is, crate::proofs::SplitLaws::is_word_is))]
 pub fn is_over(line: &[u8]) -> bool
     ensures { result ≡ is_over (words_of line.now) }
 {
     let word = first_word(line);
-    (word.len() == 0) | same(word, b"/")
+    word.is_empty() || word == b"/".as_slice()
 }
 
-pub fn read_bytes(line: &[u8], out: &mut [u8]) -> Items
-    ensures { ReadInto byte_item line.now out.new result }
+pub fn read_items<'a, T: ListItem>(line: &'a [u8], out: &mut [T]) -> Result<Items<'a>, Expected>
+    ensures { ReadInto T.kind line.now out.new result }
 {
     let mut count = 0;
-    let mut at = 0;
-    while !is_over(back(line, at)) {
-        let rest = back(line, at);
-        let value = hexadecimal(first_word(rest), 2);
-        if 255 < value {
-            return Items::Unknown(Expected::Byte);
-        }
+    let mut rest = line;
+    while !is_over(rest) {
+        let item = T::read(first_word(rest))?;
         if out.len() <= count {
-            return Items::Unknown(Expected::Fewer);
+            return Err(Expected::Fewer);
         }
-        out[count] = value as u8;
+        out[count] = item;
         count += 1;
-        at += word_end(rest);
+        rest = after_word(rest);
     }
-    Items::Read(count, at)
-}
-
-pub fn read_numbers(line: &[u8], out: &mut [i16]) -> Items
-    ensures { ReadInto number_item line.now out.new result }
-{
-    let mut count = 0;
-    let mut at = 0;
-    while !is_over(back(line, at)) {
-        let rest = back(line, at);
-        let value = signed(first_word(rest));
-        if 65_535 < value {
-            return Items::Unknown(Expected::Signed);
-        }
-        if out.len() <= count {
-            return Items::Unknown(Expected::Fewer);
-        }
-        out[count] = signed16(value as u16);
-        count += 1;
-        at += word_end(rest);
-    }
-    Items::Read(count, at)
+    Ok(Items { count, rest })
 }
 
 // The first n, or all where there are fewer.
-pub fn first_bytes(bytes: &[u8], n: usize) -> &[u8]
-    ensures { result.now ≡ take n bytes.now }
+pub fn first_items<T>(items: &[T], n: usize) -> &[T]
+    ensures { result.now ≡ take n items.now }
 {
-    if n < bytes.len() {
-        return &bytes[..n];
-    }
-    bytes
-}
-
-pub fn first_numbers(numbers: &[i16], n: usize) -> &[i16]
-    ensures { result.now ≡ take n numbers.now }
-{
-    if n < numbers.len() {
-        return &numbers[..n];
-    }
-    numbers
+    items.get(..n).unwrap_or(items)
 }

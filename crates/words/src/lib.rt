@@ -11,7 +11,7 @@ pub mod items;
 pub mod expectations;
 
 // What should have stood in the line.
-#[derive(Clone, Copy)]
+#[derive(Clone, Copy, Debug, PartialEq, Eq)]
 pub enum Expected {
     Call,
     Byte,

@@ -1,33 +1,19 @@
 // The words of a line: runs of bytes between spaces.
-ghost use Rattle.std.specs.Prelude.{◌≡◌, true, false, ◌≤◌, length, get_or, take, drop};
+ghost use Rattle.std.specs.Prelude.{◌≡◌, true, false, ◌≤◌, length, take, drop};
 ghost use Rattle.words.specs.Words.{InFront, WordEnd, first_word, after_word, is_blank, without_return, content_of};
 
 // How many bytes in front are `byte`.
 pub fn leading(line: &[u8], byte: u8) -> usize
     ensures { InFront true byte line.now result }
 {
-    let mut i = 0;
-    while i < line.len() {
-        if line[i] != byte {
-            return i;
-        }
-        i += 1;
-    }
-    i
+    line.iter().position(|&b| b != byte).unwrap_or(line.len())
 }
 
 // How many bytes stand before the first `byte`.
 pub fn until(line: &[u8], byte: u8) -> usize
     ensures { InFront false byte line.now result }
 {
-    let mut i = 0;
-    while i < line.len() {
-        if line[i] == byte {
-            return i;
-        }
-        i += 1;
-    }
-    i
+    line.iter().position(|&b| b == byte).unwrap_or(line.len())
 }
 
 // The first n bytes.
@@ -47,76 +33,55 @@ pub fn back(line: &[u8], n: usize) -> &[u8]
 }
 
 // Where the first word ends.
+#[tactic(auto, unfolding(crate::specs::Words::word_end, crate::specs::Words::first_word))]
 pub fn word_end(line: &[u8]) -> usize
     ensures { WordEnd line.now result }
 {
     let from = leading(line, b' ');
-    from + until(back(line, from), b' ')
+    from + until(&line[from..], b' ')
 }
 
 // Empty where only spaces are left.
+#[tactic(auto, unfolding(crate::specs::Words::first_word))]
 pub fn first_word(line: &[u8]) -> &[u8]
     ensures { result.now ≡ first_word line.now }
 {
-    let from = leading(line, b' ');
-    let text = back(line, from);
-    let n = until(text, b' ');
-    front(text, n)
+    let text = &line[leading(line, b' ')..];
+    &text[..until(text, b' ')]
 }
 
+#[tactic(auto, unfolding(crate::specs::Words::after_word))]
 pub fn after_word(line: &[u8]) -> &[u8]
     ensures { result.now ≡ after_word line.now }
 {
-    let n = word_end(line);
-    back(line, n)
+    &line[word_end(line)..]
 }
 
 // Only spaces are left.
 pub fn is_blank(line: &[u8]) -> bool
     ensures { result ≡ is_blank line.now }
 {
-    let word = first_word(line);
-    word.len() == 0
-}
-
-// 0 where there is none.
-pub fn first_byte(word: &[u8]) -> u8
-    ensures { result ≡ get_or word.now 0 0 }
-{
-    if word.len() == 0 {
-        return 0;
-    }
-    word[0]
+    first_word(line).is_empty()
 }
 
 pub fn without_first(word: &[u8]) -> &[u8]
     ensures { result.now ≡ drop 1 word.now }
 {
-    if word.len() == 0 {
-        return word;
-    }
-    back(word, 1)
+    word.get(1..).unwrap_or(word)
 }
 
 // A carriage return at the end is passed over.
 fn without_return(line: &[u8]) -> &[u8]
     ensures { result.now ≡ without_return line.now }
 {
-    let n = line.len();
-    if n == 0 {
-        return line;
-    }
-    if line[n - 1] == b'\r' {
-        return front(line, n - 1);
-    }
-    line
+    line.strip_suffix(b"\r").unwrap_or(line)
 }
 
 // A line without its comment and without a carriage return at its end.
+#[tactic(auto, unfolding(crate::specs::Words::content_of))]
 pub fn content(line: &[u8]) -> &[u8]
     ensures { result.now ≡ content_of line.now }
 {
     let text = without_return(line);
-    let n = until(text, b'#');
-    front(text, n)
+    &text[..until(text, b'#')]
 }

@@ -1,31 +1,22 @@
 -- `answers::end_access` meets its contract: a window's attribute and lines, a mapping's entry, or the end of the line.
 -- Assumes nothing.
-use Prim.Native.Nat.{ℕ}
+use mathlib.Core.Path.{sym, ap, ◌∙◌}
 use native.Mathlib.Omega.{arith}
-use mathlib.Core.Path.{◌≡◌, sym, ap, subst, ◌∙◌}
 use Rattle.profile.specs.Entries.{Entry}
-use Rattle.profile.specs.declared.Home.TheVariants.{Window}
-use Rattle.profile.specs.Entries.{entry_of}
-use Rattle.profile.proofs.EntryRanges.{InRange, WindowRange, in_range}
 use Rattle.words.specs.Ascii.{ascii}
 use Rattle.answers.specs.Answers.{newline, entry_text}
 use Rattle.texts.proofs.PutLaws.{put_then, put_two, put_as}
-use Rattle.answers.proofs.AnswerLaws.{no_words, lines_before}
+use Rattle.answers.proofs.AnswerLaws.{window_found, lines_before}
 use Rattle.answers.proofs.end_access.Goals as goal
 
--- a window that was found is one of the papers
-window : (index sub row w s : ℕ) (e : Entry) → e ≡ entry_of index sub → e.home ≡ Window row w s → WindowRange (entry_of index sub) row w s
-window index sub row w s e found is =
-    subst (InRange (entry_of index sub)) (ap (λ (x : Entry). x.home) (sym found) ∙ is) (in_range index sub)
-
 pub overflow_sub-place : goal.overflow_sub-place
-overflow_sub-place c = (window c.args.index c.args.sub _ _ _ _ c.find.ensures c.in-Window.is).first
+overflow_sub-place c = (window_found _ _ _ c.args.index c.args.sub _ c.in-Ok.ensures c.in-Window.is).first
 
 pub overflow_mul-width : goal.overflow_mul-width
 overflow_mul-width c =
     omega (
       arith,
-      (window c.args.index c.args.sub _ _ _ _ c.find.ensures c.in-Window.is).last,
+      (window_found _ _ _ c.args.index c.args.sub _ c.in-Ok.ensures c.in-Window.is).last,
       lines_before c.in-Window.width c.in-Window.place,
     )
 
@@ -33,28 +24,23 @@ pub overflow_add-width : goal.overflow_add-width
 overflow_add-width c =
     omega (
       arith,
-      (window c.args.index c.args.sub _ _ _ _ c.find.ensures c.in-Window.is).last,
+      (window_found _ _ _ c.args.index c.args.sub _ c.in-Ok.ensures c.in-Window.is).last,
       lines_before c.in-Window.width c.in-Window.place,
     )
 
 pub overflow_mul-width-in-Window : goal.overflow_mul-width-in-Window
-overflow_mul-width-in-Window c = omega (arith, (window c.args.index c.args.sub _ _ _ _ c.find.ensures c.in-Window.is).last)
+overflow_mul-width-in-Window c = omega (arith, (window_found _ _ _ c.args.index c.args.sub _ c.in-Ok.ensures c.in-Window.is).last)
 
 pub returns-in-Window : goal.returns-in-Window
 returns-in-Window c =
-    let is = ap (λ (e : Entry). e.home) (sym c.find.ensures) ∙ c.in-Window.is in
+    let is = ap (λ (e : Entry). e.home) (sym c.in-Ok.ensures) ∙ c.in-Window.is in
     put_as (ap entry_text is) (rw (← c.attribute.ensures) (put_two (ascii ")") newline
     (put_then c.put_all-first.ensures (put_then c.put_all-second.ensures c.put_lines-last.ensures))
     c.put_all.ensures))
 
 pub returns-in-MappingEntry : goal.returns-in-MappingEntry
 returns-in-MappingEntry c =
-    let is = ap (λ (e : Entry). e.home) (sym c.find.ensures) ∙ c.in-MappingEntry.is in
+    let is = ap (λ (e : Entry). e.home) (sym c.in-Ok.ensures) ∙ c.in-MappingEntry.is in
     put_as (ap entry_text is)
     (put_two (ascii ")") newline (put_then c.put_all-first-in-MappingEntry.ensures c.put_mapping-last.ensures)
     c.put_all-in-MappingEntry.ensures)
-
-pub returns-in_default : goal.returns-in_default
-returns-in_default c =
-    let is = ap (λ (e : Entry). entry_text e.home) (sym c.find.ensures) in
-    put_as (is ∙ no_words c.find.result.home c.in_default.not-Window c.in_default.not-MappingEntry) c.put.ensures

@@ -6,4 +6,4 @@ use Rattle.answers.proofs.put_receive.Goals as goal
 
 pub returns : goal.returns
 unfolding receive_line
-returns c = rw (← c.receive_end.ensures) (search put_then)
+returns c = rw (← c.receive_end.ensures) (put_then c.put_number-next.ensures c.put_all.ensures)

@@ -1,36 +1,14 @@
--- `split::until` meets its contract: the bytes passed and those in front of what is left are the bytes in front.
+-- `split::until` meets its contract.
 -- Assumes nothing.
-use mathlib.Core.Bool.{false}
-use native.Mathlib.Omega.{arith}
-use borrow.Author.Tests.{eqb-false, ne_eqb}
-use Rattle.words.proofs.RunLaws.{run_more, run_stops, run_ends}
+use Rattle.std.proofs.Common.{eqb, rules, tests}
+use Rattle.std.proofs.lemmas.Iterator.{YieldsList-from_slice}
+use Rattle.std.proofs.lemmas.Iterator.Search.{position_from_yields_List}
+use Rattle.words.proofs.RunLaws.{until_is}
 use Rattle.words.proofs.split.until.Goals as goal
-
-pub loop-i-init : goal.loop-i-init
-loop-i-init c = omega arith
-
-pub bounds-line-i : goal.bounds-line-i
-bounds-line-i c = omega arith
-
-pub returns-then-line-i : goal.returns-then-line-i
-returns-then-line-i c =
-    run_stops false _ c.args.line.now _ c.loop-i-test.true (λ e. eqb-false _ _ e c.if-line-i.true)
-    c.loop-i.invariant.1
-
-pub overflow_add-i : goal.overflow_add-i
-overflow_add-i c = omega arith
-
-pub loop-i-smaller : goal.loop-i-smaller
-loop-i-smaller c = omega arith
-
-pub loop-i-preserved : goal.loop-i-preserved
-loop-i-preserved c = (
-  omega arith,
-  run_more false _ c.args.line.now _ c.loop-i-test.true
-      (ne_eqb _ _ c.if-line-i.false) c.loop-i.invariant.1,
-)
 
 pub returns : goal.returns
 returns c =
-    run_ends false _ c.args.line.now _ c.loop-i.invariant.0 c.loop-i-test.false
-    c.loop-i.invariant.1
+    let line = c.args.line.now in
+    let found = position_from_yields_List (λ x. eqb x c.args.byte) _ _ c.position.result c.position.ensures.ran
+    (YieldsList-from_slice line cc) (λ x b q k. search (rules, tests)) in
+    until_is c.args.byte line _ _ found c.unwrap_or.ensures

@@ -1,13 +1,16 @@
 -- `split::without_return` meets its contract.
 -- Assumes nothing.
-use Rattle.words.proofs.WordLaws.{return_none, return_cut, return_kept}
+use Rattle.std.proofs.Common.{◌≡◌, ℕ, ◌-◌, eqb, List, [], ◌∷◌, length, drop, refl, drop-cons, arith}
+use Rattle.std.proofs.lemmas.Grind.{common_steps}
+use lib.Pointwise.{pointwise}
+use Rattle.words.specs.Words.{last_byte, without_return}
 use Rattle.words.proofs.split.without_return.Goals as goal
 
-pub returns-then-n-eq0 : goal.returns-then-n-eq0
-returns-then-n-eq0 c = return_none c.args.line.now c.if-n-eq0.true
-
-pub returns-then-line-n-eq13 : goal.returns-then-line-n-eq13
-returns-then-line-n-eq13 c = return_cut c.args.line.now _ c.if-line-n-eq13.true c.front.ensures
+-- the test of the line's end
+end_test : (line : List ℕ) → pointwise eqb (drop (length line - 1) line) (13 ∷ []) ≡ eqb (last_byte line) 13
+end_test [] = refl
+end_test (x ∷ xs) = grind (arith, common_steps, drop-cons)
 
 pub returns : goal.returns
-returns c = return_kept c.args.line.now c.if-line-n-eq13.false
+unfolding without_return
+returns c = let t = end_test c.args.line.now in grind (arith, common_steps)
