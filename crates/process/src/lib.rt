@@ -24,7 +24,8 @@ pub fn sample(
     analogue: &[i16],
     events: &mut [u8],
 ) -> Result<u16, Refusal>
-    ensures call { Ensured store.old (direct (Plain.sample digital.now analogue.now events.old)) (sample_answer result events.new) store.new }
+    ensures call { Ensured store.old (direct (Plain.sample digital.now analogue.now events.old))
+        (sample_answer result events.new) store.new }
     ensures kept { store.new ≡ with_sampled store.new.octets store.new.words store.new.values store.old }
 {
     check_sample(digital.len(), analogue.len(), events.len())?;
