@@ -95,12 +95,7 @@ pub fn put_write(
     }
 }
 
-pub fn put_sample(
-    out: &mut [u8],
-    at: usize,
-    answer: Result<u16, Refusal>,
-    events: &[u8],
-) -> usize
+pub fn put_sample(out: &mut [u8], at: usize, answer: Result<u16, Refusal>, events: &[u8]) -> usize
     ensures { Put (sample_line (sample_answer answer events.now).number events.now (sample_answer answer events.now).events)
         out.old at out.new result }
 {

@@ -16,7 +16,7 @@ pub returns-in-Ok : goal.returns-in-Ok
 returns-in-Ok c =
     let v = c.in-Ok.read in
     let line = λ (a : Result ReadValue Refusal).
-        read_line (read_answer a).number (read_answer a).value (read_answer a).size c.args.index c.args.sub in
+    read_line (read_answer a).number (read_answer a).value (read_answer a).size c.args.index c.args.sub in
     put_as (ap line c.in-Ok.is
     ∙ read_accepted v c.args.index c.args.sub c.first_items.result.now
     (c.first_items.ensures ∙ ap (take v.size) (c.to_le_bytes.ensures ∙ four_bytes_are v.value (omega arith))))
