@@ -1,5 +1,6 @@
 // receive and transmit as methods.
 ghost use Rattle.std.specs.Prelude.{◌≡◌, leb};
+ghost use Rattle.profile.specs.Numbers.{number_answered};
 ghost use Rattle.profile.specs.Answers.{plain_answer, buffer_answer};
 ghost use Rattle.profile.specs.Nodes.{operational};
 ghost use Rattle.profile.specs.MappedEntries as mapped;
@@ -16,7 +17,8 @@ use profile::Message;
 impl Device {
     // Never refused.
     pub fn receive(mut self, message: Message, frame: &[u8]) -> Answer<()>
-        ensures { Ensured self (Call.receive message frame.now) (plain_answer result.answer) result.device }
+        ensures call { Ensured self (Call.receive message frame.now) (plain_answer result.answer) result.device }
+        ensures accepted { number_answered result.answer ≡ 0 }
     {
         messages::received::receive(&mut self.store, message, frame);
         Answer {

@@ -1,4 +1,6 @@
 // The eight calls of document 01 as methods: the device comes by value and goes back with the answer.
+ghost use Rattle.std.specs.Prelude.{◌≡◌};
+ghost use Rattle.profile.specs.Numbers.{number_answered};
 ghost use Rattle.profile.specs.Answers.{plain_answer, read_answer, sample_answer, drive_answer};
 ghost use Rattle.profile.specs.Calls.{Plain, direct};
 ghost use Rattle.device.specs.Promises.{CreatedAs, Ensured};
@@ -70,7 +72,8 @@ impl Device {
 
     // Never refused.
     pub fn raise(mut self, cause: Cause) -> Answer<()>
-        ensures { Ensured self (direct (Plain.raise cause)) (plain_answer result.answer) result.device }
+        ensures call { Ensured self (direct (Plain.raise cause)) (plain_answer result.answer) result.device }
+        ensures accepted { number_answered result.answer ≡ 0 }
     {
         network::raise(&mut self.store, cause);
         Answer {
@@ -81,7 +84,8 @@ impl Device {
 
     // Never refused.
     pub fn clear(mut self, cause: Cause) -> Answer<()>
-        ensures { Ensured self (direct (Plain.clear cause)) (plain_answer result.answer) result.device }
+        ensures call { Ensured self (direct (Plain.clear cause)) (plain_answer result.answer) result.device }
+        ensures accepted { number_answered result.answer ≡ 0 }
     {
         network::clear(&mut self.store, cause);
         Answer {

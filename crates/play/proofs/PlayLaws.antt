@@ -3,7 +3,7 @@
 use Rattle.std.proofs.Common.{◌≡◌, ℕ, ◌+◌, ◌≤◌, Bool, not, eqb, List, [], ◌∷◌, ◌++◌, length, take, ℤ, sym, refl, ap, ◌∙◌, subst, add-zero, arith, Result, Ok, Err}
 use lib.Seq.{sets}
 use Rattle.profile.specs.declared.Message.{Message}
-use Rattle.profile.specs.Calls.{Call, receive, transmit, request, Reply}
+use Rattle.profile.specs.Calls.{sample, drive, Call, direct, receive, transmit, request, Reply}
 use Rattle.profile.specs.Refusals.{create_refusal, created_number}
 use Rattle.profile.specs.Heard.{Machines, fresh_machines, step_all}
 use Rattle.profile.specs.Replies.{reply}
@@ -11,16 +11,16 @@ use Rattle.profile.specs.Outcome.{Same}
 use Rattle.device.specs.declared.Device.{Device}
 use Rattle.profile.specs.declared.refusals.Refusal.{Refusal}
 use Rattle.profile.specs.declared.ReadValue.{ReadValue}
-use Rattle.profile.specs.Numbers.{number_answered}
+use Rattle.profile.specs.Numbers.{refusal_number, number_answered}
 use Rattle.profile.specs.Answers.{plain_answer, read_answer, sample_answer, drive_answer, buffer_answer}
 use Rattle.device.specs.View.{machines_of}
 use Rattle.device.specs.Promises.{CreatedAs, Ensured}
 use Rattle.texts.specs.Texts.{Put}
-use Rattle.answers.specs.Answers.{plain_line, receive_line, frame_line}
+use Rattle.answers.specs.Answers.{plain_line, sample_line, drive_line, receive_line, frame_line}
 use Rattle.frame_answers.specs.FrameAnswers.{reply_line}
 use Rattle.notation.specs.declared.Call.{Call as Asked}
 use Rattle.words.specs.declared.Expected.{Expected}
-use Rattle.answers.proofs.LengthLaws.{plain_short, receive_short, frame_short}
+use Rattle.answers.proofs.LengthLaws.{plain_short, sample_short, drive_short, receive_short, frame_short}
 use Rattle.frame_answers.proofs.FrameLengths.{reply_short}
 use Rattle.notation.specs.Meanings.{Meaning}
 use Rattle.notation.specs.Meanings.Meaning.{nothing, create, call}
@@ -57,28 +57,6 @@ fits_as m r s w e = subst (λ (x : Said). Fitting x) e w.fits
 pub read_number : (a : Result ReadValue Refusal) → number_answered a ≡ (read_answer a).number
 read_number (Ok v) = refl
 read_number (Err r) = refl
-
-pub sample_number : (a : Result ℕ Refusal) (bytes : List ℕ) → number_answered a ≡ (sample_answer a bytes).number
-sample_number (Ok events) bytes = refl
-sample_number (Err r) bytes = refl
-
-pub drive_number : (a : Result (Unit {0}) Refusal) (lines : List ℕ) (channels : List ℤ)
-    → number_answered a ≡ (drive_answer a lines channels).number
-drive_number (Ok v) lines channels = refl
-drive_number (Err r) lines channels = refl
-
-pub buffer_number : (a : Result ℕ Refusal) (bytes : List ℕ) → number_answered a ≡ (buffer_answer a bytes).number
-buffer_number (Ok count) bytes = refl
-buffer_number (Err r) bytes = refl
-
-pub buffer_bytes : (a : Result ℕ Refusal) (bytes : List ℕ) → bytes ≡ (buffer_answer a bytes).bytes
-buffer_bytes (Ok count) bytes = refl
-buffer_bytes (Err r) bytes = refl
-
-pub drive_buffers : (a : Result (Unit {0}) Refusal) (lines : List ℕ) (channels : List ℤ)
-    → (lines ≡ (drive_answer a lines channels).bytes) × (channels ≡ (drive_answer a lines channels).numbers)
-drive_buffers (Ok v) lines channels = (refl, refl)
-drive_buffers (Err r) lines channels = (refl, refl)
 
 pub counted_as : {A : Type 0} (a : Result A Refusal) {n : ℕ} {before after : Session} {d : Device} {place : ℕ} → number_answered a ≡ n
     → Counted before d (number_answered a) place after → Counted before d n place after
@@ -135,6 +113,27 @@ module _ (before : Session) (out left : List ℕ) (after : Session) where
         aside = k.aside;
       }
 
+  -- a sample and a drive, by what the device answered
+  pub sampled : (digital : List ℕ) (analogue : List ℤ) (events shown : List ℕ) (a : Result ℕ Refusal) (d : Device) (place : ℕ)
+      → Ensured before.device (direct (sample digital analogue events)) (sample_answer a shown) d
+      → Counted before d (number_answered a) place after
+      → Put (sample_line (sample_answer a shown).number shown (sample_answer a shown).events) out before.at left place
+      → length shown ≤ 64 → length out ≡ 8192 → Played before (call (direct (sample digital analogue events))) out after left
+  sampled digital analogue events shown (Ok n) d place o k p h l =
+      called (direct (sample digital analogue events)) (sample_answer (Ok n) shown) d place o k p (sample_short 0 shown n h) l
+  sampled digital analogue events shown (Err r) d place o k p h l =
+      called (direct (sample digital analogue events)) (sample_answer (Err r) shown) d place o k p (sample_short (refusal_number r) shown 0 h) l
+
+  pub driven : (lines : List ℕ) (channels : List ℤ) (a : Result (Unit {0}) Refusal) (bytes : List ℕ) (numbers : List ℤ) (d : Device)
+      (place : ℕ) → Ensured before.device (direct (drive lines channels)) (drive_answer a bytes numbers) d
+      → Counted before d (number_answered a) place after → Put (drive_line (number_answered a) bytes numbers) out before.at left place
+      → length bytes ≤ 64 → length numbers ≤ 64 → length out ≡ 8192 → Played before (call (direct (drive lines channels))) out after left
+  driven lines channels (Ok u) bytes numbers d place o k p h g l =
+      called (direct (drive lines channels)) (drive_answer (Ok u) bytes numbers) d place o k p (drive_short 0 bytes numbers h g) l
+  driven lines channels (Err r) bytes numbers d place o k p h g l =
+      called (direct (drive lines channels)) (drive_answer {A = Unit {0}} (Err r) bytes numbers) d place o k p
+      (drive_short (refusal_number r) bytes numbers h g) l
+
   -- a receive and a transmit, with what the code has found of the node and of the frame
   module _ (message : Message) (frame : List ℕ) (r : Reply) (d : Device) (place : ℕ) (k : Counted before d r.number place after)
       (l : length out ≡ 8192) (active : Bool) (a : active ≡ is_active was) where
@@ -164,6 +163,27 @@ module _ (before : Session) (out left : List ℕ) (after : Session) where
         (subst (λ (b : Bool). Put (reply_line r.number r.bytes r.count b) out before.at left place) a
         (subst (λ (m : List ℕ). Put (reply_line r.number m r.count stopped) out before.at left place) e p))
         (reply_short r.number r.bytes r.count (is_stopped was) h) l
+
+  -- the same by what the device answered
+  pub transmitted_as : (message : Message) (frame shown : List ℕ) (a : Result ℕ Refusal) (d : Device) (place : ℕ)
+      → Counted before d (number_answered a) place after → length out ≡ 8192 → (active : Bool) → active ≡ is_active was → (bytes : List ℕ)
+      → Ensured before.device (transmit message frame) (buffer_answer a shown) d → bytes ≡ shown → length shown ≤ 64
+      → Put (frame_line (buffer_answer a bytes).number bytes (buffer_answer a bytes).count active) out before.at left place
+      → Played before (call (transmit message frame)) out after left
+  transmitted_as message frame shown (Ok n) d place k l active q bytes o e h p =
+      transmitted message frame (buffer_answer (Ok n) shown) d place k l active q bytes o e h p
+  transmitted_as message frame shown (Err r) d place k l active q bytes o e h p =
+      transmitted message frame (buffer_answer (Err r) shown) d place k l active q bytes o e h p
+
+  pub requested_as : (frame buffer shown : List ℕ) (a : Result ℕ Refusal) (d : Device) (place : ℕ)
+      → Counted before d (number_answered a) place after → length out ≡ 8192 → (stopped : Bool) → stopped ≡ is_stopped was → (bytes : List ℕ)
+      → Ensured before.device (request frame buffer) (buffer_answer a shown) d → bytes ≡ shown → length shown ≤ 64
+      → Put (reply_line (buffer_answer a bytes).number bytes (buffer_answer a bytes).count stopped) out before.at left place
+      → Played before (call (request frame buffer)) out after left
+  requested_as frame buffer shown (Ok n) d place k l stopped q bytes o e h p =
+      requested frame buffer (buffer_answer (Ok n) shown) d place k l stopped q bytes o e h p
+  requested_as frame buffer shown (Err r) d place k l stopped q bytes o e h p =
+      requested frame buffer (buffer_answer (Err r) shown) d place k l stopped q bytes o e h p
 
   pub created : (node : ℕ) (answer : Result (Unit {0}) Refusal) (d : Device) (place : ℕ) → CreatedAs node answer d
       → Counted before d (number_answered answer) place after → Put (plain_line (number_answered answer)) out before.at left place → length out ≡ 8192 → Played before (create node) out after left

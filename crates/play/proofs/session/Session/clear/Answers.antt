@@ -13,4 +13,4 @@ returns c =
     let whole : length c.args.out.now ≡ 8192 = search rules in
     let got = c.clear-got.result in
     called c.args.self _ _ _ (Doc.direct (Doc.Plain.clear c.args.cause)) (plain_answer got.answer) got.device
-    c.put_plain-at.result c.clear-got.ensures c.after.ensures c.put_plain-at.ensures (plain_short (number_answered got.answer)) whole
+    c.put_plain-at.result c.clear-got.ensures.call c.after.ensures c.put_plain-at.ensures (plain_short (number_answered got.answer)) whole

@@ -1,8 +1,7 @@
 -- `Session::request` meets its contract.
 -- Assumes nothing.
-use Rattle.profile.specs.Answers.{buffer_answer}
 use Rattle.std.proofs.Common.{◌≡◌, length, take, drop, sym, ◌∙◌, arith, length-take-le, rules}
-use Rattle.play.proofs.PlayLaws.{requested, front_is, counted_as, buffer_number}
+use Rattle.play.proofs.PlayLaws.{requested_as, front_is}
 use Rattle.play.proofs.session.Session.request.Goals as goal
 
 pub slice_bounds-request-end-2 : goal.slice_bounds-request-end-2
@@ -18,4 +17,6 @@ returns c =
     let long : length left ≡ size = c.request-got.auto.reply ∙ length-take-le size buffer c.requires.0 in
     let seen : c.first_items.result.now ≡ left = c.first_items.ensures ∙ front_is size left
     (drop size buffer) long in
-    ?
+    requested_as c.args.self _ _ _ c.args.frame.now (take size buffer) left got.answer got.device c.put_reply-at.result c.after.ensures whole
+    c.is_stopped-stopped.result c.is_stopped-stopped.ensures c.first_items.result.now c.request-got.ensures seen
+    (omega (arith, long, c.requires.1)) c.put_reply-at.ensures

@@ -1,12 +1,10 @@
 -- `Session::sample` meets its contract.
 -- Assumes nothing.
-use Rattle.profile.specs.Calls as Doc
 use Rattle.profile.specs.Answers.{sample_answer}
 use Rattle.texts.specs.Texts.{Put}
 use Rattle.answers.specs.Answers.{sample_line}
-use Rattle.answers.proofs.LengthLaws.{sample_short}
 use Rattle.std.proofs.Common.{◌≡◌, ℕ, List, length, take, drop, sym, ◌∙◌, subst, arith, length-take-le, rules}
-use Rattle.play.proofs.PlayLaws.{called, front_is, counted_as, sample_number}
+use Rattle.play.proofs.PlayLaws.{sampled, front_is}
 use Rattle.play.proofs.session.Session.sample.Goals as goal
 
 pub slice_bounds-sample-end-2 : goal.slice_bounds-sample-end-2
@@ -21,10 +19,8 @@ returns c =
     c.args.events.now c.requires.0 in
     let seen : c.first_items.result.now ≡ left = c.first_items.ensures ∙ front_is
     c.args.count left (drop c.args.count c.args.events.now) long in
-    let r = sample_answer got.answer left in
-    called c.args.self _ _ _
-    (Doc.direct (Doc.Plain.sample c.args.digital.now c.args.analogue.now (take c.args.count c.args.events.now))) r
-    got.device c.put_sample-at.result c.sample-got.ensures (counted_as got.answer (sample_number got.answer left) c.after.ensures)
+    sampled c.args.self _ _ _ c.args.digital.now c.args.analogue.now (take c.args.count c.args.events.now) left got.answer got.device
+    c.put_sample-at.result c.sample-got.ensures c.after.ensures
     (subst (λ (l : List ℕ). Put (sample_line (sample_answer got.answer l).number l (sample_answer got.answer l).events)
     c.args.out.now c.args.self.at c.put_sample-at.new.out c.put_sample-at.result) seen c.put_sample-at.ensures)
-    (sample_short r.number left r.events (omega (arith, long, c.requires.1))) whole
+    (omega (arith, long, c.requires.1)) whole

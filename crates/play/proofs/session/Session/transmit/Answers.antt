@@ -1,8 +1,7 @@
 -- `Session::transmit` meets its contract.
 -- Assumes nothing.
-use Rattle.profile.specs.Answers.{buffer_answer}
 use Rattle.std.proofs.Common.{◌≡◌, length, take, drop, sym, ◌∙◌, arith, length-take-le, rules}
-use Rattle.play.proofs.PlayLaws.{transmitted, front_is, counted_as, buffer_number}
+use Rattle.play.proofs.PlayLaws.{transmitted_as, front_is}
 use Rattle.play.proofs.session.Session.transmit.Goals as goal
 
 pub slice_bounds-transmit-end-2 : goal.slice_bounds-transmit-end-2
@@ -17,4 +16,6 @@ returns c =
     c.args.frame.now c.requires.0 in
     let seen : c.first_items.result.now ≡ left = c.first_items.ensures ∙ front_is
     c.args.size left (drop c.args.size c.args.frame.now) long in
-    ?
+    transmitted_as c.args.self _ _ _ c.args.message (take c.args.size c.args.frame.now) left got.answer got.device c.put_frame-at.result
+    c.after.ensures whole c.is_active-active.result c.is_active-active.ensures c.first_items.result.now c.transmit-got.ensures seen
+    (omega (arith, long, c.requires.1)) c.put_frame-at.ensures
