@@ -1,6 +1,6 @@
 -- A call that was counted and answered was played.
 -- Assumes nothing.
-use Rattle.std.proofs.Common.{◌≡◌, ℕ, ◌+◌, ◌≤◌, Bool, not, eqb, List, [], ◌∷◌, ◌++◌, length, take, ℤ, sym, refl, ap, ◌∙◌, subst, add-zero, arith}
+use Rattle.std.proofs.Common.{◌≡◌, ℕ, ◌+◌, ◌≤◌, Bool, not, eqb, List, [], ◌∷◌, ◌++◌, length, take, sym, refl, ap, ◌∙◌, subst, arith}
 use lib.Seq.{sets}
 use Rattle.profile.specs.declared.Message.{Message}
 use Rattle.profile.specs.Calls.{Call, receive, transmit, request, Reply}
@@ -15,15 +15,13 @@ use Rattle.device.specs.Promises.{CreatedAs, Ensured}
 use Rattle.texts.specs.Texts.{Put}
 use Rattle.answers.specs.Answers.{plain_line, receive_line, frame_line}
 use Rattle.frame_answers.specs.FrameAnswers.{reply_line}
-use Rattle.notation.specs.declared.Call.{Call as Said}
 use Rattle.answers.proofs.LengthLaws.{plain_short, receive_short, frame_short}
 use Rattle.frame_answers.proofs.FrameLengths.{reply_short}
 use Rattle.notation.specs.Meanings.{Meaning}
-use Rattle.notation.specs.Meanings.Meaning.{nothing, create, call}
-use Rattle.notation.specs.Promises.{said, Fitting, Says}
+use Rattle.notation.specs.Meanings.Meaning.{create, call}
 use Rattle.play.specs.declared.session.Session.{Session}
 use Rattle.play.specs.Playing.{is_active, is_long, is_stopped, answer_line}
-use Rattle.play.specs.Sessions.{counted, full, Aside, Counted, Played, PlayedWhole}
+use Rattle.play.specs.Sessions.{counted, full, Counted, Played, PlayedWhole}
 
 -- what a call leaves of the part that it was lent stands in front of the rest
 pub front_is : {A : Type 0} (n : ℕ) (left rest : List A) → length left ≡ n → take n (left ++ rest) ≡ left
@@ -32,34 +30,6 @@ front_is {A = A} n left rest e = ap (λ k. take k (left ++ rest)) (sym e) ∙ at
     at : (l : List A) → take (length l) (l ++ rest) ≡ l
     at [] = refl
     at (x ∷ l) = ap (λ (m : List A). x ∷ m) (at l)
-
--- a line means what the reader's answer says
-pub as_meant : {before after : Session} {out left : List ℕ} {payload bytes : List ℕ} {numbers : List ℤ} {events : List ℕ} (m : Meaning)
-    (r s : Said) → Says m r payload bytes numbers events → r ≡ s →
-    Played before (said s payload bytes numbers events) out after left → Played before m out after left
-as_meant {before} {after} {out} {left} {payload} {bytes} {numbers} {events} m r s w e p =
-    subst (λ (x : Meaning). Played before x out after left) (ap (λ (x : Said). said x payload bytes numbers events) (sym e) ∙ w.is) p
-
--- its data lie within the buffers
-pub fits_as : (m : Meaning) (r s : Said) {payload bytes : List ℕ} {numbers : List ℤ} {events : List ℕ}
-    → Says m r payload bytes numbers events → r ≡ s → Fitting s
-fits_as m r s w e = subst (λ (x : Said). Fitting x) e w.fits
-
-pub same_aside : (s : Session) → Aside s s
-same_aside s = record { lines = refl; length = refl; answer = refl; met = refl; unmet = refl; ended = refl; failed = refl }
-
-pub not_played : (before : Session) (out : List ℕ) → Played before nothing out before out
-not_played before out = record {
-  machines = record { at = λ k i h. refl };
-  answered = record { kept = refl; inside = λ h. h; moved = λ h. sym (add-zero before.at); written = λ h. refl };
-  short = omega arith;
-  text = λ h. refl;
-  place = λ h. sym (add-zero before.at);
-  calls = refl;
-  refused = refl;
-  unknown = refl;
-  aside = same_aside before;
-}
 
 -- text of at most a kilobyte, put where the block has a kilobyte left
 module _ (text out : List ℕ) (at : ℕ) (left : List ℕ) (next : ℕ) (p : Put text out at left next) (b : length text ≤ 1024)

@@ -11,7 +11,7 @@ use std::num::wrapping_add_u64;
 use texts::text::put_all;
 use words::Expected;
 use words::expectations::{expected, is_as_expected, is_expectation};
-use words::items::first_bytes;
+use words::items::first_items;
 use words::split::{back, front};
 
 // A byte order mark in front of line 1 is passed over.
@@ -21,7 +21,7 @@ pub(crate) fn without_mark(text: &[u8], line: u64) -> &[u8]
     if line != 1 {
         return text;
     }
-    if same(first_bytes(text, 3), b"\xEF\xBB\xBF") {
+    if same(first_items(text, 3), b"\xEF\xBB\xBF") {
         return back(text, 3);
     }
     text
@@ -74,7 +74,7 @@ impl Session {
         ensures { Answered self (expects text.now) answer.now out.old result
             answer.now out.new }
     {
-        let last = first_bytes(answer, self.answer);
+        let last = first_items(answer, self.answer);
         if last.len() == 0 {
             return self.reject(Expected::Answer, out);
         }

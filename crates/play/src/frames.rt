@@ -8,7 +8,7 @@ use crate::session::Session;
 use answers::{put_frame, put_receive};
 use frame_answers::put_reply;
 use profile::Message;
-use words::items::first_bytes;
+use words::items::first_items;
 
 impl Session {
     // The first n bytes are the frame.
@@ -21,7 +21,7 @@ impl Session {
     ) -> Session
         ensures { Played self (call (Doc.receive message (take n bytes.now))) out.old result out.new }
     {
-        self.receive(message, first_bytes(bytes, n), out)
+        self.receive(message, first_items(bytes, n), out)
     }
 
     // The first n bytes are the frame's buffer.
@@ -51,7 +51,7 @@ impl Session {
         ensures { Played self (call (Doc.request (take n bytes.now) (take k others.old)))
             out.old result out.new }
     {
-        self.request(first_bytes(bytes, n), others, k, out)
+        self.request(first_items(bytes, n), others, k, out)
     }
 
     fn receive(self, message: Message, frame: &[u8], out: &mut [u8; 8192]) -> Session
@@ -84,7 +84,7 @@ impl Session {
             out,
             self.at,
             got.number,
-            first_bytes(frame, size),
+            first_items(frame, size),
             got.count,
             active,
         );
@@ -104,7 +104,7 @@ impl Session {
             out,
             self.at,
             got.number,
-            first_bytes(reply, size),
+            first_items(reply, size),
             got.length,
             stopped,
         );

@@ -27,9 +27,9 @@ returns c =
     c.args.lines.now c.requires.0 in
     let many-channels : length channels ≡ c.args.numbers = c.drive-got.auto.channels ∙ length-take-le
     c.args.numbers c.args.channels.now c.requires.2 in
-    let seen-lines : c.first_bytes.result.now ≡ lines = c.first_bytes.ensures ∙ front_is
+    let seen-lines : c.first_items.result.now ≡ lines = c.first_items.ensures ∙ front_is
     c.args.count lines (drop c.args.count c.args.lines.now) many-lines in
-    let seen-channels : c.first_numbers.result.now ≡ channels = c.first_numbers.ensures ∙ front_is
+    let seen-channels : c.first_items-2.result.now ≡ channels = c.first_items-2.ensures ∙ front_is
     c.args.numbers channels (drop c.args.numbers c.args.channels.now) many-channels in
     called c.args.self _ _ _
     (Doc.direct (Doc.Plain.drive (take c.args.count c.args.lines.now)
@@ -37,7 +37,7 @@ returns c =
     c.drive-got.result.device c.put_drive-at.result c.drive-got.ensures c.after.ensures
     (subst (λ (l : List ℕ). Put (drive_line c.drive-got.result.number l channels) c.args.out.now
     c.args.self.at c.put_drive-at.new.out c.put_drive-at.result) seen-lines
-    (subst (λ (l : List ℤ). Put (drive_line c.drive-got.result.number c.first_bytes.result.now l)
+    (subst (λ (l : List ℤ). Put (drive_line c.drive-got.result.number c.first_items.result.now l)
     c.args.out.now c.args.self.at c.put_drive-at.new.out
     c.put_drive-at.result) seen-channels c.put_drive-at.ensures))
     (drive_short c.drive-got.result.number lines channels (omega (arith, many-lines, c.requires.1))

@@ -9,5 +9,5 @@ use Rattle.play.proofs.session.Session.receive_from.Goals as goal
 pub returns : goal.returns
 returns c =
     subst (λ (l : List ℕ). Played c.args.self (call (Doc.receive c.args.message l))
-    c.args.out.now c.receive.result c.receive.new.out) c.first_bytes.ensures
+    c.args.out.now c.receive.result c.receive.new.out) c.first_items.ensures
     c.receive.ensures

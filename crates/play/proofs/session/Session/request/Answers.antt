@@ -16,8 +16,8 @@ returns c =
     let got = c.request-got.result in
     let left = c.request-got.new.reply in
     let long : length left ≡ size = c.request-got.auto.reply ∙ length-take-le size buffer c.requires.0 in
-    let seen : c.first_bytes.result.now ≡ left = c.first_bytes.ensures ∙ front_is size left
+    let seen : c.first_items.result.now ≡ left = c.first_items.ensures ∙ front_is size left
     (drop size buffer) long in
     requested c.args.self _ _ _ c.args.frame.now (take size buffer) (request_answer got left) got.device
     c.put_reply-at.result c.after.ensures whole c.is_stopped-stopped.result c.is_stopped-stopped.ensures
-    c.first_bytes.result.now c.request-got.ensures seen (omega (arith, long, c.requires.1)) c.put_reply-at.ensures
+    c.first_items.result.now c.request-got.ensures seen (omega (arith, long, c.requires.1)) c.put_reply-at.ensures

@@ -10,4 +10,4 @@ pub returns : goal.returns
 returns c =
     subst (λ (l : List ℕ). Played c.args.self (call (Doc.request l (take c.args.k c.args.others.now)))
     c.args.out.now
-    c.request.result c.request.new.out) c.first_bytes.ensures c.request.ensures
+    c.request.result c.request.new.out) c.first_items.ensures c.request.ensures

@@ -18,7 +18,7 @@ returns c =
     let left = c.sample-got.new.events in
     let long : length left ≡ c.args.count = c.sample-got.auto.events ∙ length-take-le c.args.count
     c.args.events.now c.requires.0 in
-    let seen : c.first_bytes.result.now ≡ left = c.first_bytes.ensures ∙ front_is
+    let seen : c.first_items.result.now ≡ left = c.first_items.ensures ∙ front_is
     c.args.count left (drop c.args.count c.args.events.now) long in
     called c.args.self _ _ _
     (Doc.direct (Doc.Plain.sample c.args.digital.now c.args.analogue.now

@@ -11,9 +11,9 @@ returns c =
     subst (λ (l : List ℕ). Played c.args.self
     (call (Doc.direct (Doc.Plain.sample l (take c.args.m c.args.numbers.now)
     (take c.args.k c.args.events.now)))) c.args.out.now c.sample.result
-    c.sample.new.out) c.first_bytes.ensures
+    c.sample.new.out) c.first_items.ensures
     (subst (λ (l : List ℤ). Played c.args.self
-    (call (Doc.direct (Doc.Plain.sample c.first_bytes.result.now l
+    (call (Doc.direct (Doc.Plain.sample c.first_items.result.now l
     (take c.args.k c.args.events.now))))
-    c.args.out.now c.sample.result c.sample.new.out) c.first_numbers.ensures
+    c.args.out.now c.sample.result c.sample.new.out) c.first_items-2.ensures
     c.sample.ensures)

@@ -15,8 +15,8 @@ returns c =
     let left = c.transmit-got.new.frame in
     let long : length left ≡ c.args.size = c.transmit-got.auto.frame ∙ length-take-le c.args.size
     c.args.frame.now c.requires.0 in
-    let seen : c.first_bytes.result.now ≡ left = c.first_bytes.ensures ∙ front_is
+    let seen : c.first_items.result.now ≡ left = c.first_items.ensures ∙ front_is
     c.args.size left (drop c.args.size c.args.frame.now) long in
     transmitted c.args.self _ _ _ c.args.message (take c.args.size c.args.frame.now) (transmit_answer got left)
     got.device c.put_frame-at.result c.after.ensures whole c.is_active-active.result c.is_active-active.ensures
-    c.first_bytes.result.now c.transmit-got.ensures seen (omega (arith, long, c.requires.1)) c.put_frame-at.ensures
+    c.first_items.result.now c.transmit-got.ensures seen (omega (arith, long, c.requires.1)) c.put_frame-at.ensures

@@ -9,5 +9,5 @@ use Rattle.play.proofs.session.Session.write_from.Goals as goal
 pub returns : goal.returns
 returns c =
     subst (λ (l : List ℕ). Played c.args.self (call (Doc.direct (Doc.Plain.write c.args.index c.args.sub l)))
-    c.args.out.now c.write.result c.write.new.out) c.first_bytes.ensures
+    c.args.out.now c.write.result c.write.new.out) c.first_items.ensures
     c.write.ensures
