@@ -84,7 +84,7 @@ def places(root):
             lent = [p for p in params if p.split(":")[0] in ARRAYS]
             if re.search(r"\brefused\b|_refusal\(|\brefusal\(", body) and "u32" in result or re.search(r"refusal$", name) and result == "u32":
                 note("1 numbers for kinds or refusals: functions", at)
-            if re.search(r"\bNONE\b|return 44|< 44", body):
+            if re.search(r"(?<!:)\bNONE\b|return 44|< 44", body):
                 note("1 a number for none", at)
             if len(lent) >= 3:
                 note("5 three or more of the six arrays", at)

@@ -6,7 +6,6 @@ ghost use Rattle.play.specs.Sessions.{full, PlayedWhole, Remembered, Answered};
 
 use crate::session::Session;
 use answers::put_unmet;
-use check::same;
 use std::num::wrapping_add_u64;
 use texts::text::put_all;
 use words::Expected;
@@ -21,7 +20,7 @@ pub(crate) fn without_mark(text: &[u8], line: u64) -> &[u8]
     if line != 1 {
         return text;
     }
-    if same(first_items(text, 3), b"\xEF\xBB\xBF") {
+    if first_items(text, 3) == b"\xEF\xBB\xBF".as_slice() {
         return back(text, 3);
     }
     text
