@@ -56,7 +56,10 @@ fn value_at(store: &Store, home: Home) -> u32
             );
             read_input(channel, index)
         }
-        Home::OutputChannel(index, n) => read_output(output_at(&store.flags, &store.values, n), index),
+        Home::OutputChannel(index, n) => read_output(
+            output_at(&store.flags, &store.values, n),
+            index,
+        ),
         Home::Sources => read_sources(&store.octets),
         Home::Device(index) => nodes::read(store.node(), index),
         Home::MappingEntry(m, sub) => mappings::read(&store.deltas, m, sub),

@@ -77,13 +77,7 @@ impl Session {
     {
         let active = self.device.is_active();
         let got = self.device.transmit(message, &mut frame[..size]);
-        let at = put_frame(
-            out,
-            self.at,
-            got.answer,
-            first_items(frame, size),
-            active,
-        );
+        let at = put_frame(out, self.at, got.answer, first_items(frame, size), active);
         self.after(got, at)
     }
 
@@ -94,13 +88,7 @@ impl Session {
     {
         let stopped = self.device.is_stopped();
         let got = self.device.request(frame, &mut reply[..size]);
-        let at = put_reply(
-            out,
-            self.at,
-            got.answer,
-            first_items(reply, size),
-            stopped,
-        );
+        let at = put_reply(out, self.at, got.answer, first_items(reply, size), stopped);
         self.after(got, at)
     }
 }

@@ -4,7 +4,6 @@ use mathlib.Core.Path.{◌≡◌, refl, sym, ap, ◌∙◌}
 use Rattle.std.proofs.Common.{rules, Err}
 use Rattle.profile.specs.Entries.{Entry, home_of}
 use Rattle.store.specs.View.{parts_of, with_octets}
-use Rattle.store.proofs.EntryLaws.{entry_readable}
 use Rattle.store.proofs.KeepLaws.{taken}
 use Rattle.store.proofs.StepLaws.{read_stepped}
 use Rattle.store.proofs.OutcomeLaws.{read_outcome}
