@@ -1,34 +1,28 @@
 -- The entries of a mapping one after the other: the plain writes of a received frame, and the bytes of a transmitted one.
 -- Assumes nothing.
-use mathlib.Core.Path.{◌≡◌, refl, ap, ap₂, ◌∙◌, sym, subst}
-use mathlib.Core.Bool.{Bool, true, false, not, cond}
+use mathlib.Core.Path.{◌≡◌, refl, ap, ◌∙◌, sym, subst}
+use mathlib.Core.Bool.{Bool, true, false, cond}
 use mathlib.Core.List.{List, [], ◌∷◌, ◌++◌}
-use Prim.Native.Nat.{ℕ, ◌-◌, ◌<◌, ◌≤◌}
-use native.Mathlib.Omega.{arith}
-use lib.ListN.{length, get_or, take, drop, drop_of_length-le}
-use borrow.Rule.Slice.PartMut.{put_mid}
+use Prim.Native.Nat.{ℕ, ◌≤◌}
+use lib.Dec.{eqb}
+use lib.ListN.{length, get_or, take, drop}
 use Rattle.std.specs.List.{between}
-use Rattle.std.proofs.lemmas.List.{append-nil, length-drop, take_at, drop_at}
-use Rattle.std.proofs.lemmas.Slice.{between_to_end, first_rest}
-use Rattle.profile.specs.declared.Entry as code
-use Rattle.profile.specs.declared.refusals.Refusal.{Refusal}
-use Rattle.profile.specs.Numbers.{refusal_number}
-use Rattle.profile.specs.Answers.{present}
+use Rattle.std.proofs.lemmas.Slice.{first_rest}
+use Rattle.profile.specs.declared.Message.{Message}
 use Rattle.profile.specs.Bytes.{bytes_of}
-use Rattle.profile.specs.Entries.{Entry, entry_of, absent_entry}
-use Rattle.profile.specs.MappedEntries.{receives, index_of, sub_of, mapped_entry, moves, moved}
-use Rattle.profile.specs.Calls.{Plain, write, direct, Reply}
-use Rattle.profile.specs.Heard.{Machines, frame_writes, step_each}
+use Rattle.profile.specs.MappedEntries.{transmitted, index_of, sub_of, mapped_entry, moves, moved, total}
+use Rattle.profile.specs.Calls.{Plain, write, transmit}
+use Rattle.profile.specs.Refusals.{transmit_refusal}
+use Rattle.profile.specs.Heard.{Machines, number_of, in_force, frame_writes, step_each}
 use Rattle.profile.specs.Machines.{step}
-use Rattle.profile.specs.Replies.{read_value, frame_of}
+use Rattle.profile.specs.Replies.{read_value, frame_of, sends, transmit_reply, unchanged, answer_to, refuse_to, reply}
+use Rattle.profile.proofs.AnswerLaws.{nonzero}
 use Rattle.profile.proofs.ListTheorem.{fold_append, same_trans}
-use Rattle.profile.proofs.MappedLaws.{moving, moves_none, moved_none, moved_moves}
-use Rattle.profile.proofs.MessageLaws.{bytes_of_length}
+use Rattle.profile.proofs.MappedLaws.{moved_none}
 use Rattle.profile.proofs.ReplyLaws.{each_same}
 use Rattle.store.specs.declared.Store.{Store}
 use Rattle.store.specs.View.{machines_of}
-use Rattle.store.specs.Promises.{Ensured}
-use Rattle.messages.specs.View.{Heard, entry_writes, EntryPut, Filled}
+use Rattle.messages.specs.View.{Heard, entry_writes}
 
 -- what holds of an entry that moves and of one that does not
 by_moves : (m v : ℕ) (P : Bool → ℕ → Type 0) → P true (moved m v) → P false 0 → P (moves m v) (moved m v)
@@ -38,11 +32,14 @@ by_moves m v P p q = by (moves m v) refl
     by true e = p
     by false e = subst (P false) (sym (moved_none m v e)) q
 
--- the tail of a slice
-tail : {A : Type 0} (n : ℕ) (l : List A) → between n (length l) l ≡ drop n l
-tail n l = between_to_end l n (length l) (omega arith)
-
--- ---- received
+-- a received frame
+writes_more : (m v : ℕ) (vs frame : List ℕ)
+    → frame_writes m (v ∷ vs) frame ≡ entry_writes m v (take (moved m v) frame) ++ frame_writes m vs (drop (moved m v) frame)
+writes_more m v vs frame =
+    by_moves m v
+    (λ b n. cond b (write (index_of v) (sub_of v) (take n frame) ∷ frame_writes m vs (drop n frame)) (frame_writes m vs frame)
+    ≡ cond b (write (index_of v) (sub_of v) (take n frame) ∷ []) [] ++ frame_writes m vs (drop n frame))
+    refl refl
 
 heard_both : {d e f : Store} (cs ds : List Plain) → Heard d cs e → Heard e ds f → Heard d (cs ++ ds) f
 heard_both {d} {e} {f} cs ds p q =
@@ -54,53 +51,42 @@ heard_both {d} {e} {f} cs ds p q =
       normal = λ n. q.normal (p.normal n);
     }
 
-frame_more : (m v : ℕ) (vs frame : List ℕ)
-    → frame_writes m (v ∷ vs) frame ≡ entry_writes m v (take (moved m v) frame) ++ frame_writes m vs (drop (moved m v) frame)
-frame_more m v vs frame =
-    by_moves m v
-    (λ b n. cond b (write (index_of v) (sub_of v) (take n frame) ∷ frame_writes m vs (drop n frame)) (frame_writes m vs frame)
-    ≡ cond b (write (index_of v) (sub_of v) (take n frame) ∷ []) [] ++ frame_writes m vs (drop n frame))
-    refl refl
-
--- the first entry and the others, as the code has them
-pub frame_first : {d e f : Store} (m n : ℕ) (vs frame : List ℕ) → 1 ≤ length vs → n ≡ moved m (get_or vs 0 0)
-    → Heard d (entry_writes m (get_or vs 0 0) (take n frame)) e
-    → Heard e (frame_writes m (between 1 (length vs) vs) (between n (length frame) frame)) f
+pub heard_more : {d e f : Store} (m : ℕ) (vs frame bytes rest : List ℕ) → 1 ≤ length vs
+    → bytes ≡ take (moved m (get_or vs 0 0)) frame → rest ≡ drop (moved m (get_or vs 0 0)) frame
+    → Heard d (entry_writes m (get_or vs 0 0) bytes) e → Heard e (frame_writes m (between 1 (length vs) vs) rest) f
     → Heard d (frame_writes m vs frame) f
-frame_first {d} {e} {f} m n vs frame some is p q =
-    let v = get_or vs 0 0 in
-    let rest = between 1 (length vs) vs in
-    let both = heard_both (entry_writes m v (take n frame)) (frame_writes m rest (drop n frame)) p (rw (tail n frame) at q) in
-    rw (first_rest vs 0 some) (rw (frame_more m v rest frame, sym is) both)
+heard_more m vs frame bytes rest some p q first others =
+    rw (first_rest vs 0 some, writes_more m (get_or vs 0 0) (between 1 (length vs) vs) frame, sym p, sym q)
+    (heard_both (entry_writes m (get_or vs 0 0) bytes) _ first others)
 
--- ---- transmitted
-
-put_more : (ms : Machines) (m v : ℕ) (vs rest : List ℕ)
-    → frame_of ms m (v ∷ vs) rest ≡ bytes_of (moved m v) (read_value ms (mapped_entry v).home) ++ frame_of ms m vs (drop (moved m v) rest)
-put_more ms m v vs rest =
+-- a transmitted frame
+put_more : (ms : Machines) (m v : ℕ) (vs frame : List ℕ)
+    → frame_of ms m (v ∷ vs) frame ≡ bytes_of (moved m v) (read_value ms (mapped_entry v).home) ++ frame_of ms m vs (drop (moved m v) frame)
+put_more ms m v vs frame =
     by_moves m v
-    (λ b n. cond b (bytes_of n (read_value ms (mapped_entry v).home) ++ frame_of ms m vs (drop n rest)) (frame_of ms m vs rest)
-    ≡ bytes_of n (read_value ms (mapped_entry v).home) ++ frame_of ms m vs (drop n rest))
+    (λ b n. cond b (bytes_of n (read_value ms (mapped_entry v).home) ++ frame_of ms m vs (drop n frame)) (frame_of ms m vs frame)
+    ≡ bytes_of n (read_value ms (mapped_entry v).home) ++ frame_of ms m vs (drop n frame))
     refl refl
 
--- a slice that begins with n bytes, once the rest has come back
-put_front : (n : ℕ) (zs front rest ys : List ℕ) → zs ≡ front ++ rest → length front ≡ n → put_mid n (length zs - n) zs ys ≡ front ++ ys
-put_front n zs front rest ys is long =
-    let head : take n zs ≡ front = ap (take n) is ∙ take_at front rest n long in
-    let none : drop (length zs - n) (drop n zs) ≡ [] = drop_of_length-le (drop n zs) (omega (arith, length-drop n zs)) in
-    rw (head, none, append-nil ys) refl
+pub filled_more : (d : Store) (m : ℕ) (vs frame : List ℕ) → 1 ≤ length vs
+    → frame_of (machines_of d) m vs frame
+    ≡ bytes_of (moved m (get_or vs 0 0)) (read_value (machines_of d) (mapped_entry (get_or vs 0 0)).home)
+    ++ frame_of (machines_of d) m (between 1 (length vs) vs) (drop (moved m (get_or vs 0 0)) frame)
+filled_more d m vs frame some =
+    ap (λ l. frame_of (machines_of d) m l frame) (first_rest vs 0 some)
+    ∙ put_more (machines_of d) m (get_or vs 0 0) (between 1 (length vs) vs) frame
 
--- the first entry and the others, as the code has them
-pub put_first : (d : Store) (m n : ℕ) (vs rest zs ys : List ℕ) → 1 ≤ length vs → receives m ≡ false → n ≡ moved m (get_or vs 0 0)
-    → EntryPut d (get_or vs 0 0) n rest zs → Filled d m (between 1 (length vs) vs) (between n (length zs) zs) ys
-    → Filled d m vs rest (put_mid n (length zs - n) zs ys)
-put_first d m n vs rest zs ys some sends is z y =
-    let v = get_or vs 0 0 in
-    let others = between 1 (length vs) vs in
-    let value = read_value (machines_of d) (mapped_entry v).home in
-    let filled = z.is m sends is in
-    let long = bytes_of_length n value in
-    let behind : drop n zs ≡ drop n rest = ap (drop n) filled ∙ drop_at (bytes_of n value) (drop n rest) n long in
-    let left = rw (tail n zs, behind) at y in
-    put_front n zs (bytes_of n value) (drop n rest) ys filled long ∙ ap (λ l. bytes_of n value ++ l) left
-    ∙ rw is (sym (put_more (machines_of d) m v others rest)) ∙ ap (λ l. frame_of (machines_of d) m l rest) (sym (first_rest vs 0 some))
+-- the reply to a transmit
+pub replied : (ms : Machines) (message : Message) (frame : List ℕ)
+    → reply ms (transmit message frame)
+    ≡ cond (eqb (transmit_refusal (length frame)) 0)
+    (cond (sends ms (transmitted message))
+    (transmit_reply (total (transmitted message) (in_force ms (transmitted message)))
+    (frame_of ms (transmitted message) (in_force ms (transmitted message)) frame))
+    (transmit_reply 0 frame))
+    (unchanged (transmit_refusal (length frame)) frame [])
+unfolding reply number_of answer_to refuse_to
+replied ms message frame = refl
+
+-- what the check is told at `transmit`
+pub ruleset for_transmit = (replied, nonzero)

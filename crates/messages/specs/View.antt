@@ -1,11 +1,11 @@
 -- What the parts of a message promise to it.
 -- Assumes nothing.
-use Rattle.std.specs.Prelude.{◌≡◌, Bool, true, false, cond, List, [], ◌∷◌, ◌++◌, ℕ, leb, length, drop, ℤ}
+use Rattle.std.specs.Prelude.{◌≡◌, true, false, cond, List, [], ◌∷◌, ℕ, leb, length}
 use Rattle.profile.specs.declared.Home.{Home}
 use Rattle.profile.specs.Bytes.{bytes_of}
 use Rattle.profile.specs.MappedEntries.{receives, index_of, sub_of, mapped_entry, mappable, moves, moved, total}
 use Rattle.profile.specs.Calls.{Plain, write}
-use Rattle.profile.specs.Heard.{Machines, frame_writes, step_each}
+use Rattle.profile.specs.Heard.{frame_writes, step_each}
 use Rattle.profile.specs.Replies.{read_value, frame_of}
 use Rattle.store.specs.declared.Store.{Store}
 use Rattle.store.specs.View.{machines_of}
@@ -30,10 +30,10 @@ module _ (d : Store) where
   pub record Shown (e : Home) (r : ℕ) : Type 0 where
     pub is : (m : ℕ) → receives m ≡ false → mappable m e ≡ true → r ≡ read_value (machines_of d) e
 
-  -- so many bytes of an entry were put at the front, where a transmit mapping moves so many of it
-  pub record EntryPut (v size : ℕ) (rest rest' : List ℕ) : Type 0 where
-    pub is : (m : ℕ) → receives m ≡ false → size ≡ moved m v
-        → rest' ≡ bytes_of size (read_value (machines_of d) (mapped_entry v).home) ++ drop size rest
+  -- the bytes of an entry were put, where a transmit mapping moves so many of it
+  pub record EntryPut (v : ℕ) (bytes bytes' : List ℕ) : Type 0 where
+    pub is : (m : ℕ) → receives m ≡ false → length bytes ≡ moved m v
+        → bytes' ≡ bytes_of (length bytes) (read_value (machines_of d) (mapped_entry v).home)
 
   -- entries of mapping m were put, each after the one before
   abbrev pub Filled : ℕ → List ℕ → List ℕ → List ℕ → Type 0

@@ -38,19 +38,20 @@ fn obey(store: &mut Store, m: usize, entries: &[u32], frame: &[u8])
 }
 
 // The first entry takes the front of the frame, the others the rest.
+#[tactic(auto, using(crate::proofs::FrameLaws::heard_more))]
 fn write_each(store: &mut Store, m: usize, entries: &[u32], frame: &[u8])
     requires { mapped.total m entries.now ≤ length frame.now }
     ensures { Heard store.old (frame_writes m entries.now frame.now) store.new }
 {
     if let [entry, others @ ..] = entries {
-        let size = moved(m, *entry);
-        write_entry(store, m, *entry, &frame[..size]);
-        write_each(store, m, others, &frame[size..]);
+        let (data, rest) = frame.split_at(moved(m, *entry));
+        write_entry(store, m, *entry, data);
+        write_each(store, m, others, rest);
     }
 }
 
 // An entry that moves nothing has no data and is not written; the others are accepted, as `frame_accepted` says.
-#[tactic(auto, using(profile::proofs::MappedLaws::moves_none, profile::proofs::MappedLaws::moved_moves))]
+#[tactic(auto, using(profile::proofs::MappedLaws::moves_none), unfolding(profile::specs::MappedEntries::moved))]
 fn write_entry(store: &mut Store, m: usize, entry: u32, bytes: &[u8])
     requires { length bytes.now ≡ mapped.moved m entry }
     ensures { Heard store.old (entry_writes m entry bytes.now) store.new }

@@ -19,7 +19,7 @@ use profile::{Home, Message};
 use store::Store;
 
 // The answer is how many bytes were written: none unless operational.
-#[tactic(auto, using(profile::proofs::AnswerLaws::not_accepted), unfolding(profile::specs::Refusals::transmit_refusal, profile::specs::Replies::reply, profile::specs::Heard::number_of, profile::specs::Replies::answer_to, profile::specs::Replies::refuse_to))]
+#[tactic(auto, using(crate::proofs::FrameLaws::for_transmit), unfolding(profile::specs::Refusals::transmit_refusal))]
 pub fn transmit(store: &Store, message: Message, frame: &mut [u8]) -> Result<usize, Refusal>
     ensures { Ensured store.now (Call.transmit message frame.old) (buffer_answer result frame.new) store.now }
 {
@@ -47,29 +47,30 @@ fn send(store: &Store, m: usize, entries: &[u32], frame: &mut [u8]) -> usize
 }
 
 // The first entry is put at the front, the others into the rest.
-fn put_each(store: &Store, m: usize, entries: &[u32], rest: &mut [u8])
-    requires { (receives m ≡ false) × (mapped.total m entries.now ≤ length rest.old) }
-    ensures { Filled store.now m entries.now rest.old rest.new }
+#[tactic(auto, using(crate::proofs::FrameLaws::filled_more))]
+fn put_each(store: &Store, m: usize, entries: &[u32], frame: &mut [u8])
+    requires { (receives m ≡ false) × (mapped.total m entries.now ≤ length frame.old) }
+    ensures { Filled store.now m entries.now frame.old frame.new }
 {
     if let [entry, others @ ..] = entries {
-        let size = moved(m, *entry);
-        put_entry(store, *entry, size, rest);
-        put_each(store, m, others, &mut rest[size..]);
+        let (bytes, rest) = frame.split_at_mut(moved(m, *entry));
+        put_entry(store, *entry, bytes);
+        put_each(store, m, others, rest);
     }
 }
 
-#[tactic(auto, using(store::proofs::EntryLaws::entry_readable, profile::proofs::MappedLaws::moving), unfolding(profile::specs::MappedEntries::moved))]
-fn put_entry(store: &Store, entry: u32, size: usize, rest: &mut [u8])
-    requires { size ≤ length rest.old }
-    ensures { EntryPut store.now entry size rest.old rest.new }
+#[tactic(auto, unfolding(profile::specs::MappedEntries::moves, profile::specs::MappedEntries::moved))]
+fn put_entry(store: &Store, entry: u32, bytes: &mut [u8])
+    ensures { EntryPut store.now entry bytes.old bytes.new }
 {
     if let Ok(found) = find(index_of(entry), sub_of(entry)) {
-        put(rest, shown(store, found.home), size);
+        #[tactic(auto, using(store::proofs::EntryLaws::entry_readable))]
+        put(bytes, shown(store, found.home));
     }
 }
 
 // What a read answers of an entry that a transmit mapping takes.
-#[tactic(auto, using(profile::proofs::MappedLaws::input_index), unfolding(profile::specs::Replies::read_value, profile::specs::AnalogueInput::read_analogue_input))]
+#[tactic(auto, unfolding(profile::specs::Replies::read_value, profile::specs::AnalogueInput::read_analogue_input))]
 fn shown(store: &Store, home: Home) -> u32
     requires { Readable home }
     ensures { Shown store.now home result }
@@ -81,13 +82,13 @@ fn shown(store: &Store, home: Home) -> u32
     }
 }
 
-// The value's bytes, least significant first, at the front.
-fn put(rest: &mut [u8], value: u32, size: usize)
-    requires { size ≤ length rest.old }
-    ensures { rest.new ≡ bytes_of size value ++ drop size rest.old }
+// The value's bytes, least significant first.
+fn put(bytes: &mut [u8], value: u32)
+    ensures { bytes.new ≡ bytes_of (length bytes.old) value }
 {
-    if 0 < size {
-        rest[0] = (value % 256) as u8;
-        put(&mut rest[1..], value / 256, size - 1);
+    let mut left = value;
+    for byte in bytes {
+        *byte = (left % 256) as u8;
+        left /= 256;
     }
 }

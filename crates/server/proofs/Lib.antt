@@ -1,3 +1,3 @@
--- From what the code of a request knows to its promise.
+-- The replies to a request and to the plain call that it is.
 -- Assumes nothing.
-pub mod RequestLaws
+pub mod Laws

@@ -1,7 +1,7 @@
 -- What an upload or a download promises to it.
 -- Assumes nothing.
-use Rattle.std.specs.Prelude.{◌≡◌, List, [], ℕ}
-use Rattle.profile.specs.Calls.{Plain, direct, Reply}
+use Rattle.std.specs.Prelude.{◌≡◌, List, ℕ}
+use Rattle.profile.specs.Calls.{Plain, direct}
 use Rattle.profile.specs.Server.{encoded}
 use Rattle.profile.specs.Replies.{reply}
 use Rattle.store.specs.declared.Store.{Store}

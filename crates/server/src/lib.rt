@@ -20,6 +20,7 @@ use server_frames::requests::{aborts, asks_download, asks_upload, index_in, size
 use store::Store;
 
 // The rows of a request, in the paper's order; then what it asks. The answer is the reply's length in bytes: 8, or 0 where there is none.
+#[tactic(auto, using(crate::proofs::Laws::for_request), unfolding(profile::specs::Refusals::request_refusal))]
 pub fn request(store: &mut Store, frame: &[u8], reply: &mut [u8]) -> Result<usize, Refusal>
     ensures { Ensured store.old (Call.request frame.now reply.old) (buffer_answer result reply.new) store.new }
 {
@@ -31,6 +32,7 @@ pub fn request(store: &mut Store, frame: &[u8], reply: &mut [u8]) -> Result<usiz
 }
 
 // The length of the reply to a request of a node that is not stopped.
+#[tactic(auto, using(crate::proofs::Laws::for_serve), unfolding(profile::specs::Refusals::request_refusal, profile::specs::Server::asked))]
 fn serve(store: &mut Store, frame: &[u8], reply: &mut [u8]) -> usize
     requires { (length frame.now ≡ 8) × (length reply.old ≡ 8)
         × (stopped (node_at store.old.octets store.old.flags) ≡ false) }
@@ -53,6 +55,7 @@ fn serve(store: &mut Store, frame: &[u8], reply: &mut [u8]) -> usize
 }
 
 // The plain read, and its reply as a frame.
+#[tactic(auto, using(crate::proofs::Laws::for_upload), unfolding(profile::specs::Server::encoded))]
 fn upload(store: &mut Store, frame: &[u8], reply: &mut [u8])
     requires { (length frame.now ≡ 8) × (length reply.old ≡ 8) × (asks_upload frame.now ≡ true) }
     ensures { Done store.old (Plain.read (index_in frame.now) (sub_in frame.now)) frame.now reply.new store.new }
@@ -64,6 +67,7 @@ fn upload(store: &mut Store, frame: &[u8], reply: &mut [u8])
 }
 
 // The plain write, and its reply as a frame.
+#[tactic(auto, using(profile::proofs::AnswerLaws::nonzero), unfolding(profile::specs::Server::encoded))]
 fn download(store: &mut Store, frame: &[u8], reply: &mut [u8])
     requires { (length frame.now ≡ 8) × (length reply.old ≡ 8) × (asks_upload frame.now ≡ false) }
     ensures { Done store.old

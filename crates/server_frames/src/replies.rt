@@ -51,7 +51,10 @@ fn put_head(frame: &[u8], reply: &mut [u8], first: u8)
     ensures { reply.new ≡ headed first frame.now reply.old }
 {
     reply[0] = first;
-    reply[1..4].copy_from_slice(&frame[1..4]);
+    // Byte by byte: copy_from_slice would test, as it runs, whether the two overlap.
+    reply[1] = frame[1];
+    reply[2] = frame[2];
+    reply[3] = frame[3];
 }
 
 fn put_data(reply: &mut [u8], held: u32)
