@@ -3,6 +3,11 @@
 
 /* What the header says of memory. */
 IO401_ASSERT(device, sizeof(io401_device) == 1080);
+IO401_ASSERT(device_flags, offsetof(io401_device, flags) == 22);
+IO401_ASSERT(device_words, offsetof(io401_device, words) == 40);
+IO401_ASSERT(device_limits, offsetof(io401_device, limits) == 360);
+IO401_ASSERT(device_deltas, offsetof(io401_device, deltas) == 488);
+IO401_ASSERT(device_values, offsetof(io401_device, values) == 968);
 
 /* What it says of a request and its answer. */
 IO401_ASSERT(served, sizeof(io401_request_answer) == 16 && offsetof(io401_request_answer, length) == 8);

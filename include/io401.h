@@ -157,12 +157,6 @@ IO401_ASSERT(sample_answer, sizeof(io401_sample_answer) == 8);
 IO401_ASSERT(sample_answer_events, offsetof(io401_sample_answer, events) == 4);
 IO401_ASSERT(transmit_answer, sizeof(io401_transmit_answer) == 16);
 IO401_ASSERT(transmit_answer_count, offsetof(io401_transmit_answer, count) == 8);
-IO401_ASSERT(device, sizeof(io401_device) == 1080);
-IO401_ASSERT(device_flags, offsetof(io401_device, flags) == 22);
-IO401_ASSERT(device_words, offsetof(io401_device, words) == 40);
-IO401_ASSERT(device_limits, offsetof(io401_device, limits) == 360);
-IO401_ASSERT(device_deltas, offsetof(io401_device, deltas) == 488);
-IO401_ASSERT(device_values, offsetof(io401_device, values) == 968);
 IO401_ASSERT(request_answer, sizeof(io401_request_answer) == 16);
 IO401_ASSERT(request_answer_length, offsetof(io401_request_answer, length) == 8);
 
