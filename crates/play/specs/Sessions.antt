@@ -9,7 +9,7 @@ use Rattle.device.specs.View.{machines_of}
 use Rattle.texts.specs.Texts.{Put}
 use Rattle.notation.specs.Meanings.{Meaning}
 use Rattle.play.specs.declared.session.Progress.{Progress}
-use Rattle.play.specs.declared.session.Progress.TheVariants.{Reading}
+use Rattle.play.specs.declared.session.Progress.TheVariants.{Reading, Over, Failed}
 use Rattle.play.specs.declared.session.Session.{Session}
 use Rattle.play.specs.Playing.{answer_for, machines_for, is_call, is_refused, is_unknown, Line, without_mark, line_of, line_answer, newer}
 use Rattle.play.specs.Playing.{last_after, machines_after, counts_as_call, counts_as_refused, counts_as_unknown, counts_as_met, counts_as_unmet}
@@ -24,6 +24,12 @@ counted true n = (n + 1) % 2 ^ 64
 -- the output block has 8,192 bytes; up to this place it has room for what any line gets
 abbrev pub full : ℕ
 full = 6144
+
+-- no line is read any more: the input is over, or it or the output failed
+abbrev pub is_over : Progress → Bool
+is_over Reading = false
+is_over Over = true
+is_over Failed = true
 
 -- before the first line: "A list whose first call is no create plays on `create 1`"
 pub record Started (s : Session) : Type 0 where
