@@ -1,13 +1,15 @@
 // Answer lines: the call's number, what it answers, and words that help a person.
-#![tactic(auto)]
+#![tactic(auto, using(words::proofs::BufferLaws::puts))]
 
 ghost use Rattle.std.specs.Prelude.{◌≡◌, ◌++◌};
 ghost use Rattle.profile.specs.Answers.{read_answer, sample_answer, buffer_answer};
 ghost use Rattle.profile.specs.Entries.{home_of};
 ghost use Rattle.profile.specs.Numbers.{number_answered};
 ghost use Rattle.words.specs.Ascii.{ascii};
-ghost use Rattle.texts.specs.Texts.{Put, bytes_text, decimal_text};
-ghost use Rattle.answers.specs.Answers.{number_text, end_text, lines_text, entry_text, direction_text, place_in_mapping, mapping_text};
+ghost use Rattle.words.specs.Buffers.{put};
+ghost use Rattle.texts.specs.Texts.{bytes_text, decimal_text};
+ghost use Rattle.answers.specs.Answers.{newline, number_text, end_text, lines_text, entry_text, direction_text};
+ghost use Rattle.answers.specs.Answers.{place_in_mapping, mapping_text};
 ghost use Rattle.answers.specs.Answers.{plain_line, write_line, read_line, sample_line, drive_line, unknown_line};
 ghost use Rattle.answers.specs.Answers.{receive_end, receive_line, frame_end, frame_line, unmet_line, totals_text, judged_text};
 
@@ -15,10 +17,9 @@ use crate::tables::{attribute, meaning, wanted};
 use dictionary::entries::find;
 use profile::refusals::Refusal;
 use profile::{Home, ReadValue};
-use texts::text::{
-    put, put_all, put_bytes, put_decimal, put_each_word, put_long_hex, put_numbers, put_places,
-};
+use texts::text::{put_bytes, put_decimal, put_each_word, put_long_hex, put_numbers, put_places};
 use words::Expected;
+use words::buffers::Buffer;
 use words::items::first_items;
 
 // The tables of words.
@@ -26,108 +27,96 @@ pub mod tables;
 
 // The numbers of the papers are below 10, abort codes far above.
 #[tactic(auto, unfolding(crate::specs::Answers::number_text))]
-pub fn put_number(out: &mut [u8], at: usize, number: u32) -> usize
-    ensures { Put (number_text number) out.old at out.new result }
+pub fn put_number<B: Buffer<u8>>(out: &mut B, number: u32)
+    ensures { B.held out.new ≡ put B.most (B.held out.old) (number_text number) }
 {
     if number < 10 {
-        return put_decimal(out, at, u64::from(number));
+        return put_decimal(out, u64::from(number));
     }
-    put_long_hex(out, at, number)
+    put_long_hex(out, number);
 }
 
 // The number of a refusal, 0 where the call is accepted.
-fn number_of<T: Drop>(answer: Result<T, Refusal>) -> u32
-    ensures { result ≡ number_answered answer }
+fn put_outcome<B: Buffer<u8>, T: Drop>(out: &mut B, answer: &Result<T, Refusal>)
+    ensures { B.held out.new ≡ put B.most (B.held out.old) (number_text (number_answered answer.now)) }
 {
     match answer {
-        Ok(_) => 0,
-        Err(refusal) => refusal.number(),
+        Ok(_) => put_number(out, 0),
+        Err(refusal) => put_number(out, refusal.number()),
     }
 }
 
 // A call that answers its number alone.
-pub fn put_plain(out: &mut [u8], at: usize, answer: Result<(), Refusal>) -> usize
-    ensures { Put (plain_line (number_answered answer)) out.old at out.new result }
+#[tactic(auto, using(words::proofs::BufferLaws::puts), unfolding(crate::specs::Answers::plain_line))]
+pub fn put_plain<B: Buffer<u8>>(out: &mut B, answer: Result<(), Refusal>)
+    ensures { B.held out.new ≡ put B.most (B.held out.old) (plain_line (number_answered answer)) }
 {
-    let number = number_of(answer);
-    let next = put_number(out, at, number);
-    end(out, next, number)
+    put_outcome(out, &answer);
+    end(out, &answer);
 }
 
 // An accepted read, by its value's `size` lowest bytes; a refused one answers its number alone.
-#[tactic(auto, unfolding(crate::specs::Answers::read_line))]
-pub fn put_read(
-    out: &mut [u8],
-    at: usize,
-    answer: Result<ReadValue, Refusal>,
-    index: u16,
-    sub: u8,
-) -> usize
-    ensures { Put (read_line (read_answer answer).number (read_answer answer).value (read_answer answer).size index sub)
-        out.old at out.new result }
+#[tactic(auto, using(crate::proofs::AnswerLaws::reads), unfolding(crate::specs::Answers::read_line))]
+pub fn put_read<B: Buffer<u8>>(out: &mut B, answer: Result<ReadValue, Refusal>, index: u16, sub: u8)
+    ensures { B.held out.new ≡ put B.most (B.held out.old)
+        (read_line (read_answer answer).number (read_answer answer).value (read_answer answer).size index sub) }
 {
     match answer {
         Ok(read) => {
-            let next = put_all(out, at, b"0 =");
-            let last = put_bytes(out, next, first_items(&read.value.to_le_bytes(), read.size));
-            end_access(out, last, index, sub)
+            out.put_all(b"0 =");
+            put_bytes(out, first_items(&read.value.to_le_bytes(), read.size));
+            end_access(out, index, sub);
         }
-        Err(refusal) => put_plain(out, at, Err(refusal)),
+        Err(refusal) => put_plain(out, Err(refusal)),
     }
 }
 
-#[tactic(auto, using(texts::proofs::PutLaws::put_then), unfolding(crate::specs::Answers::write_line))]
-pub fn put_write(
-    out: &mut [u8],
-    at: usize,
-    answer: Result<(), Refusal>,
-    index: u16,
-    sub: u8,
-) -> usize
-    ensures { Put (write_line (number_answered answer) index sub) out.old at out.new result }
+#[tactic(auto, using(words::proofs::BufferLaws::puts), unfolding(crate::specs::Answers::write_line))]
+pub fn put_write<B: Buffer<u8>>(out: &mut B, answer: Result<(), Refusal>, index: u16, sub: u8)
+    ensures { B.held out.new ≡ put B.most (B.held out.old) (write_line (number_answered answer) index sub) }
 {
     match answer {
         Ok(()) => {
-            let next = put(out, at, b'0');
-            end_access(out, next, index, sub)
+            out.put(b'0');
+            end_access(out, index, sub);
         }
-        Err(refusal) => put_plain(out, at, Err(refusal)),
+        Err(refusal) => put_plain(out, Err(refusal)),
     }
 }
 
-pub fn put_sample(out: &mut [u8], at: usize, answer: Result<u16, Refusal>, events: &[u8]) -> usize
-    ensures { Put (sample_line (sample_answer answer events.now).number events.now (sample_answer answer events.now).events)
-        out.old at out.new result }
+#[tactic(auto, using(words::proofs::BufferLaws::puts), unfolding(crate::specs::Answers::sample_line))]
+pub fn put_sample<B: Buffer<u8>>(out: &mut B, answer: Result<u16, Refusal>, events: &[u8])
+    ensures { B.held out.new ≡ put B.most (B.held out.old)
+        (sample_line (sample_answer answer events.now).number events.now (sample_answer answer events.now).events) }
 {
-    let number = number_of(answer);
-    let first = put_buffer(out, at, number, b" events", events);
-    let second = put_all(out, first, b" /");
-    let last = put_places(out, second, answer.unwrap_or(0));
-    end(out, last, number)
+    put_buffer(out, &answer, b" events", events);
+    out.put_all(b" /");
+    put_places(out, answer.unwrap_or(0));
+    end(out, &answer);
 }
 
-pub fn put_drive(
-    out: &mut [u8],
-    at: usize,
+#[tactic(auto, using(words::proofs::BufferLaws::puts), unfolding(crate::specs::Answers::drive_line))]
+pub fn put_drive<B: Buffer<u8>>(
+    out: &mut B,
     answer: Result<(), Refusal>,
     lines: &[u8],
     channels: &[i16],
-) -> usize
-    ensures { Put (drive_line (number_answered answer) lines.now channels.now) out.old at out.new result }
+)
+    ensures { B.held out.new ≡ put B.most (B.held out.old) (drive_line (number_answered answer) lines.now channels.now) }
 {
-    let number = number_of(answer);
-    let first = put_buffer(out, at, number, b" lines", lines);
-    let second = put_all(out, first, b" /");
-    let last = put_numbers(out, second, channels);
-    end(out, last, number)
+    put_buffer(out, &answer, b" lines", lines);
+    out.put_all(b" /");
+    put_numbers(out, channels);
+    end(out, &answer);
 }
 
 // A receive, in a node that is operational or not, by a frame that is as long as its mapping or not; it is never refused.
-pub fn put_receive(out: &mut [u8], at: usize, active: bool, long: bool) -> usize
-    ensures { Put (receive_line 0 active long) out.old at out.new result }
+#[tactic(auto, using(words::proofs::BufferLaws::puts), unfolding(crate::specs::Answers::receive_line))]
+pub fn put_receive<B: Buffer<u8>>(out: &mut B, active: bool, long: bool)
+    ensures { B.held out.new ≡ put B.most (B.held out.old) (receive_line 0 active long) }
 {
-    let next = put_number(out, at, 0);
-    put_all(out, next, receive_end(active, long))
+    put_number(out, 0);
+    out.put_all(receive_end(active, long));
 }
 
 #[tactic(auto, unfolding(crate::specs::Answers::receive_end))]
@@ -141,18 +130,18 @@ fn receive_end(active: bool, long: bool) -> &'static [u8]
     }
 }
 
-pub fn put_frame(
-    out: &mut [u8],
-    at: usize,
+#[tactic(auto, using(words::proofs::BufferLaws::puts, crate::proofs::AnswerLaws::number_is), unfolding(crate::specs::Answers::frame_line))]
+pub fn put_frame<B: Buffer<u8>>(
+    out: &mut B,
     answer: Result<usize, Refusal>,
     frame: &[u8],
     active: bool,
-) -> usize
-    ensures { Put (frame_line (buffer_answer answer frame.now).number frame.now (buffer_answer answer frame.now).count active)
-        out.old at out.new result }
+)
+    ensures { B.held out.new ≡ put B.most (B.held out.old)
+        (frame_line (buffer_answer answer frame.now).number frame.now (buffer_answer answer frame.now).count active) }
 {
-    let next = put_counted(out, at, answer, b" frame", frame);
-    put_all(out, next, frame_end(answer, active))
+    put_counted(out, answer, b" frame", frame);
+    out.put_all(frame_end(answer, active));
 }
 
 // A transmit has one refusal, whose number means the event buffer elsewhere.
@@ -168,79 +157,97 @@ fn frame_end(answer: Result<usize, Refusal>, active: bool) -> &'static [u8]
 }
 
 // A number, a word, and a buffer as the call left it.
-fn put_buffer(out: &mut [u8], at: usize, number: u32, word: &[u8], buffer: &[u8]) -> usize
-    ensures { Put (number_text number ++ word.now ++ bytes_text buffer.now) out.old at out.new result }
+fn put_buffer<B: Buffer<u8>, T: Drop>(
+    out: &mut B,
+    answer: &Result<T, Refusal>,
+    word: &[u8],
+    buffer: &[u8],
+)
+    ensures { B.held out.new ≡ put B.most (B.held out.old)
+        (number_text (number_answered answer.now) ++ word.now ++ bytes_text buffer.now) }
 {
-    let first = put_number(out, at, number);
-    let second = put_all(out, first, word);
-    put_bytes(out, second, buffer)
+    put_outcome(out, answer);
+    out.put_all(word);
+    put_bytes(out, buffer);
 }
 
 // The same, and a count, which is 0 where the call is refused.
-pub fn put_counted(
-    out: &mut [u8],
-    at: usize,
+#[tactic(auto, using(words::proofs::BufferLaws::puts, crate::proofs::AnswerLaws::counted_is))]
+pub fn put_counted<B: Buffer<u8>>(
+    out: &mut B,
     answer: Result<usize, Refusal>,
     word: &[u8],
     buffer: &[u8],
-) -> usize
-    ensures { Put (number_text (buffer_answer answer buffer.now).number ++ word.now ++ bytes_text buffer.now
-        ++ ascii " / " ++ decimal_text (buffer_answer answer buffer.now).count) out.old at out.new result }
+)
+    ensures { B.held out.new ≡ put B.most (B.held out.old)
+        (number_text (buffer_answer answer buffer.now).number ++ word.now ++ bytes_text buffer.now
+        ++ ascii " / " ++ decimal_text (buffer_answer answer buffer.now).count) }
 {
     let count = answer.unwrap_or(0);
-    let first = put_buffer(out, at, number_of(answer), word, buffer);
-    let second = put_all(out, first, b" / ");
-    put_decimal(out, second, count as u64)
+    put_buffer(out, &answer, word, buffer);
+    out.put_all(b" / ");
+    put_decimal(out, count as u64);
+}
+
+// Words in parentheses end a line.
+pub fn close<B: Buffer<u8>>(out: &mut B)
+    ensures { B.held out.new ≡ put B.most (B.held out.old) (ascii ")" ++ newline) }
+{
+    out.put(b')');
+    out.put(b'\n');
 }
 
 // A refusal's meaning and the line's end.
-#[tactic(auto, unfolding(crate::specs::Answers::end_text))]
-fn end(out: &mut [u8], at: usize, number: u32) -> usize
-    ensures { Put (end_text number) out.old at out.new result }
+#[tactic(auto, using(crate::proofs::AnswerLaws::ends), unfolding(crate::specs::Answers::end_text))]
+fn end<B: Buffer<u8>, T: Drop>(out: &mut B, answer: &Result<T, Refusal>)
+    ensures { B.held out.new ≡ put B.most (B.held out.old) (end_text (number_answered answer.now)) }
 {
-    if number == 0 {
-        return put(out, at, b'\n');
+    match answer {
+        Ok(_) => out.put(b'\n'),
+        Err(refusal) => {
+            out.put_all(b" (");
+            out.put_all(meaning(refusal.number()));
+            close(out);
+        }
     }
-    let first = put_all(out, at, b" (");
-    let last = put_all(out, first, meaning(number));
-    put_all(out, last, b")\n")
 }
 
 // What an entry of digital lines is a window on, or which entry of which mapping it is, and the line's end.
-pub fn end_access(out: &mut [u8], at: usize, index: u16, sub: u8) -> usize
-    ensures { Put (entry_text (home_of index sub)) out.old at out.new result }
+#[tactic(auto, using(crate::proofs::AnswerLaws::parentheses))]
+pub fn end_access<B: Buffer<u8>>(out: &mut B, index: u16, sub: u8)
+    ensures { B.held out.new ≡ put B.most (B.held out.old) (entry_text (home_of index sub)) }
 {
     let Ok(entry) = find(index, sub) else {
-        return put(out, at, b'\n');
+        return out.put(b'\n');
     };
     match entry.home {
         Home::Window(row, width, place) => {
-            let first = put_all(out, at, b" (");
-            let second = put_all(out, first, attribute(row));
-            let last = put_lines(
+            out.put_all(b" (");
+            out.put_all(attribute(row));
+            put_lines(
                 out,
-                second,
                 (width * (place - 1) + 1) as u64,
                 (width * place) as u64,
             );
-            put_all(out, last, b")\n")
+            close(out);
         }
         Home::MappingEntry(mapping, place) => {
-            let first = put_all(out, at, b" (");
-            let last = put_mapping(out, first, mapping, place);
-            put_all(out, last, b")\n")
+            out.put_all(b" (");
+            put_mapping(out, mapping, place);
+            close(out);
         }
-        _ => put(out, at, b'\n'),
+        _ => out.put(b'\n'),
     }
 }
 
-fn put_mapping(out: &mut [u8], at: usize, mapping: usize, place: usize) -> usize
-    ensures { Put (mapping_text mapping place) out.old at out.new result }
+#[tactic(auto, using(words::proofs::BufferLaws::puts), unfolding(crate::specs::Answers::mapping_text))]
+fn put_mapping<B: Buffer<u8>>(out: &mut B, mapping: usize, place: usize)
+    ensures { B.held out.new ≡ put B.most (B.held out.old) (mapping_text mapping place) }
 {
-    let first = put_all(out, at, direction(mapping));
-    let second = put_all(out, first, b" mapping ");
-    let third = put_decimal(out, second, (mapping % 4 + 1) as u64);
-    put_place_in_mapping(out, third, place)
+    out.put_all(direction(mapping));
+    out.put_all(b" mapping ");
+    put_decimal(out, (mapping % 4 + 1) as u64);
+    put_place_in_mapping(out, place);
 }
 
 #[tactic(auto, unfolding(crate::specs::Answers::direction_text))]
@@ -253,76 +260,90 @@ fn direction(mapping: usize) -> &'static [u8]
     }
 }
 
-#[tactic(auto, using(texts::proofs::PutLaws::put_then), unfolding(crate::specs::Answers::place_in_mapping))]
-fn put_place_in_mapping(out: &mut [u8], at: usize, place: usize) -> usize
-    ensures { Put (place_in_mapping place) out.old at out.new result }
+#[tactic(auto, using(words::proofs::BufferLaws::puts), unfolding(crate::specs::Answers::place_in_mapping))]
+fn put_place_in_mapping<B: Buffer<u8>>(out: &mut B, place: usize)
+    ensures { B.held out.new ≡ put B.most (B.held out.old) (place_in_mapping place) }
 {
     if place == 0 {
-        return put_all(out, at, b", count");
+        return out.put_all(b", count");
     }
-    let next = put_all(out, at, b", entry ");
-    put_decimal(out, next, place as u64)
+    out.put_all(b", entry ");
+    put_decimal(out, place as u64);
 }
 
-fn put_lines(out: &mut [u8], at: usize, from: u64, to: u64) -> usize
-    ensures { Put (lines_text from to) out.old at out.new result }
+#[tactic(auto, using(words::proofs::BufferLaws::puts), unfolding(crate::specs::Answers::lines_text))]
+fn put_lines<B: Buffer<u8>>(out: &mut B, from: u64, to: u64)
+    ensures { B.held out.new ≡ put B.most (B.held out.old) (lines_text from to) }
 {
     if from == to {
-        let next = put_all(out, at, b", line ");
-        return put_decimal(out, next, from);
+        out.put_all(b", line ");
+        return put_decimal(out, from);
     }
-    let next = put_all(out, at, b", lines ");
-    let first = put_decimal(out, next, from);
-    let second = put_all(out, first, b" to ");
-    put_decimal(out, second, to)
+    out.put_all(b", lines ");
+    put_decimal(out, from);
+    out.put_all(b" to ");
+    put_decimal(out, to);
 }
 
 // A line that is no call.
-pub fn put_unknown(out: &mut [u8], at: usize, line: u64, expected: Expected) -> usize
-    ensures { Put (unknown_line line expected) out.old at out.new result }
+#[tactic(auto, using(words::proofs::BufferLaws::puts), unfolding(crate::specs::Answers::unknown_line))]
+pub fn put_unknown<B: Buffer<u8>>(out: &mut B, line: u64, expected: Expected)
+    ensures { B.held out.new ≡ put B.most (B.held out.old) (unknown_line line expected) }
 {
-    let first = put_all(out, at, b"? line ");
-    let second = put_decimal(out, first, line);
-    let third = put_all(out, second, b": ");
-    let fourth = put_all(out, third, b"expected ");
-    let last = put_all(out, fourth, wanted(expected));
-    put(out, last, b'\n')
+    out.put_all(b"? line ");
+    put_decimal(out, line);
+    out.put_all(b": ");
+    out.put_all(b"expected ");
+    out.put_all(wanted(expected));
+    out.put(b'\n');
 }
 
 // An expected answer that did not come.
-pub fn put_unmet(out: &mut [u8], at: usize, line: u64, text: &[u8]) -> usize
-    ensures { Put (unmet_line line text.now) out.old at out.new result }
+#[tactic(auto, using(words::proofs::BufferLaws::puts), unfolding(crate::specs::Answers::unmet_line))]
+pub fn put_unmet<B: Buffer<u8>>(out: &mut B, line: u64, text: &[u8])
+    ensures { B.held out.new ≡ put B.most (B.held out.old) (unmet_line line text.now) }
 {
-    let first = put_all(out, at, b"! line ");
-    let second = put_decimal(out, first, line);
-    let third = put_all(out, second, b": expected");
-    let last = put_each_word(out, third, text);
-    put(out, last, b'\n')
+    out.put_all(b"! line ");
+    put_decimal(out, line);
+    out.put_all(b": expected");
+    put_each_word(out, text);
+    out.put(b'\n');
 }
 
 // The totals: how many calls, how many of them refused, and how many lines that are no call.
-pub fn put_totals(out: &mut [u8], at: usize, calls: u64, refused: u64, unknown: u64) -> usize
-    ensures { Put (totals_text calls refused unknown) out.old at out.new result }
+#[tactic(auto, using(words::proofs::BufferLaws::puts), unfolding(crate::specs::Answers::totals_text))]
+pub fn put_totals<B: Buffer<u8>>(out: &mut B, calls: u64, refused: u64, unknown: u64)
+    ensures { B.held out.new ≡ put B.most (B.held out.old) (totals_text calls refused unknown) }
 {
-    let first = put(out, at, b'\n');
-    let second = put_decimal(out, first, calls);
-    let third = put_all(out, second, b" calls, ");
-    let fourth = put_decimal(out, third, refused);
-    let fifth = put_all(out, fourth, b" refused, ");
-    let sixth = put_decimal(out, fifth, unknown);
-    put_all(out, sixth, b" not understood\n")
+    put_calls(out, calls, refused);
+    put_decimal(out, unknown);
+    out.put_all(b" not understood");
+    out.put(b'\n');
+}
+
+// An empty line, and how many calls there were.
+fn put_calls<B: Buffer<u8>>(out: &mut B, calls: u64, refused: u64)
+    ensures { B.held out.new ≡ put B.most (B.held out.old)
+        (newline ++ decimal_text calls ++ ascii " calls, " ++ decimal_text refused ++ ascii " refused, ") }
+{
+    out.put(b'\n');
+    put_decimal(out, calls);
+    out.put_all(b" calls, ");
+    put_decimal(out, refused);
+    out.put_all(b" refused, ");
 }
 
 // How many expected answers came and how many did not, where any was expected.
-#[tactic(auto, using(texts::proofs::PutLaws::put_none), unfolding(crate::specs::Answers::judged_text))]
-pub fn put_judged(out: &mut [u8], at: usize, met: u64, unmet: u64) -> usize
-    ensures { Put (judged_text met unmet) out.old at out.new result }
+#[tactic(auto, using(words::proofs::BufferLaws::puts), unfolding(crate::specs::Answers::judged_text))]
+pub fn put_judged<B: Buffer<u8>>(out: &mut B, met: u64, unmet: u64)
+    ensures { B.held out.new ≡ put B.most (B.held out.old) (judged_text met unmet) }
 {
     if met == 0 && unmet == 0 {
-        return at;
+        return;
     }
-    let first = put_decimal(out, at, met);
-    let second = put_all(out, first, b" as expected, ");
-    let third = put_decimal(out, second, unmet);
-    put_all(out, third, b" not\n")
+    put_decimal(out, met);
+    out.put_all(b" as expected, ");
+    put_decimal(out, unmet);
+    out.put_all(b" not");
+    out.put(b'\n');
 }

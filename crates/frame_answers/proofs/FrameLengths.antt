@@ -12,13 +12,8 @@ use Rattle.profile.specs.Server.{index_in, sub_in, data_in, aborts}
 use Rattle.words.specs.Ascii.{ascii}
 use Rattle.answers.specs.Answers.{refusal_text}
 use Rattle.answers.proofs.LengthLaws.{short_cond, decimal_short, bytes_short, number_short, refusal_short, parentheses_short, entry_short}
-use Rattle.frame_answers.specs.FrameAnswers.{buffer_text, refused_end, silent_end}
+use Rattle.frame_answers.specs.FrameAnswers.{refused_end, silent_end}
 use Rattle.frame_answers.specs.FrameAnswers.{abort_end, replied_end, reply_end, reply_line}
-
-buffer_short : (n : ℕ) (word buffer : List ℕ) (count : ℕ) → length word ≤ 6 → length buffer ≤ 64 → length
-    (buffer_text n word buffer count) ≤ 229
-unfolding buffer_text
-buffer_short n word buffer count w h = simp length-append (omega (arith, w, h, number_short n, bytes_short buffer, decimal_short count))
 
 refused_short : (n : ℕ) → length (refused_end n) ≤ 74
 unfolding refused_end
@@ -49,4 +44,4 @@ pub reply_short : (n : ℕ) (reply : List ℕ) (count : ℕ) (stopped : Bool) �
     → length (reply_line n reply count stopped) ≤ 1024
 unfolding reply_line
 reply_short n reply count stopped h = simp length-append
-    (omega (arith, buffer_short n (ascii " reply") reply count (omega arith) h, reply_end_short n reply count stopped))
+    (omega (arith, h, number_short n, bytes_short reply, decimal_short count, reply_end_short n reply count stopped))

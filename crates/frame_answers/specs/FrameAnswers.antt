@@ -9,7 +9,7 @@ use Rattle.texts.specs.Texts.{decimal_text, bytes_text}
 use Rattle.answers.specs.Answers.{newline, in_parentheses, number_text, refusal_text, entry_text}
 
 -- the call's number, a word, "the buffer as the call left it, `/`", and a count
-unfoldable pub buffer_text : ℕ → List ℕ → List ℕ → ℕ → List ℕ
+abbrev pub buffer_text : ℕ → List ℕ → List ℕ → ℕ → List ℕ
 buffer_text n word buffer count = number_text n ++ word ++ bytes_text buffer ++ ascii " / " ++ decimal_text count
 
 -- "Request not 8 bytes long: number 7 .. Reply buffer not 8 long: 5"

@@ -4,45 +4,44 @@
 ghost use Rattle.std.specs.Prelude.{◌≡◌};
 ghost use Rattle.profile.specs.Answers.{buffer_answer};
 ghost use Rattle.profile.specs.Numbers.{refusal_number};
-ghost use Rattle.texts.specs.Texts.{Put};
+ghost use Rattle.words.specs.Buffers.{put};
 ghost use Rattle.frame_answers.specs.FrameAnswers.{refused_end, silent_end, abort_end, replied_end, reply_end, reply_line};
 
 use answers::tables::meaning;
-use answers::{end_access, put_counted};
+use answers::{close, end_access, put_counted};
 use profile::refusals::Refusal;
 use server_frames::requests::{aborts, code_in, index_in, sub_in};
-use texts::text::{put, put_all};
+use words::buffers::Buffer;
 
 // A request, in a node that was stopped before it or not.
-pub fn put_reply(
-    out: &mut [u8],
-    at: usize,
+#[tactic(auto, using(words::proofs::BufferLaws::puts), unfolding(crate::specs::FrameAnswers::reply_line))]
+pub fn put_reply<B: Buffer<u8>>(
+    out: &mut B,
     answer: Result<usize, Refusal>,
     reply: &[u8],
     stopped: bool,
-) -> usize
-    ensures { Put (reply_line (buffer_answer answer reply.now).number reply.now (buffer_answer answer reply.now).count stopped)
-        out.old at out.new result }
+)
+    ensures { B.held out.new ≡ put B.most (B.held out.old)
+        (reply_line (buffer_answer answer reply.now).number reply.now (buffer_answer answer reply.now).count stopped) }
 {
-    let next = put_counted(out, at, answer, b" reply", reply);
-    end_reply(out, next, answer, reply, stopped)
+    put_counted(out, answer, b" reply", reply);
+    end_reply(out, answer, reply, stopped);
 }
 
 #[tactic(auto, using(profile::proofs::AnswerLaws::nonzero), unfolding(crate::specs::FrameAnswers::reply_end))]
-fn end_reply(
-    out: &mut [u8],
-    at: usize,
+fn end_reply<B: Buffer<u8>>(
+    out: &mut B,
     answer: Result<usize, Refusal>,
     reply: &[u8],
     stopped: bool,
-) -> usize
-    ensures { Put (reply_end (buffer_answer answer reply.now).number reply.now (buffer_answer answer reply.now).count stopped)
-        out.old at out.new result }
+)
+    ensures { B.held out.new ≡ put B.most (B.held out.old)
+        (reply_end (buffer_answer answer reply.now).number reply.now (buffer_answer answer reply.now).count stopped) }
 {
     match answer {
-        Ok(0) => put_all(out, at, silent_end(stopped)),
-        Ok(_) => end_replied(out, at, reply),
-        Err(refusal) => put_all(out, at, refused_end(refusal)),
+        Ok(0) => out.put_all(silent_end(stopped)),
+        Ok(_) => end_replied(out, reply),
+        Err(refusal) => out.put_all(refused_end(refusal)),
     }
 }
 
@@ -69,22 +68,25 @@ fn silent_end(stopped: bool) -> &'static [u8]
 }
 
 // A reply is read back: what its abort means, or what its entry is a window on.
-fn end_replied(out: &mut [u8], at: usize, reply: &[u8]) -> usize
-    ensures { Put (replied_end reply.now) out.old at out.new result }
+#[tactic(auto, unfolding(crate::specs::FrameAnswers::replied_end))]
+fn end_replied<B: Buffer<u8>>(out: &mut B, reply: &[u8])
+    ensures { B.held out.new ≡ put B.most (B.held out.old) (replied_end reply.now) }
 {
     if reply.len() != 8 {
-        return put(out, at, b'\n');
+        return out.put(b'\n');
     }
     if aborts(reply[0]) {
-        return end_abort(out, at, code_in(reply));
+        return end_abort(out, code_in(reply));
     }
-    end_access(out, at, index_in(reply), sub_in(reply))
+    end_access(out, index_in(reply), sub_in(reply));
 }
 
-fn end_abort(out: &mut [u8], at: usize, code: u32) -> usize
-    ensures { Put (abort_end code) out.old at out.new result }
+#[tactic(auto, using(answers::proofs::AnswerLaws::parentheses), unfolding(crate::specs::FrameAnswers::abort_end))]
+fn end_abort<B: Buffer<u8>>(out: &mut B, code: u32)
+    ensures { B.held out.new ≡ put B.most (B.held out.old) (abort_end code) }
 {
-    let first = put_all(out, at, b" (abort: ");
-    let last = put_all(out, first, meaning(code));
-    put_all(out, last, b")\n")
+    out.put_all(b" (");
+    out.put_all(b"abort: ");
+    out.put_all(meaning(code));
+    close(out);
 }

@@ -1,13 +1,13 @@
 // A line as a call.
-ghost use Rattle.std.specs.Prelude.{◌≡◌, replicate, pos};
+ghost use Rattle.std.specs.Prelude.{◌≡◌};
 ghost use Rattle.words.specs.Words.{words_of};
 ghost use Rattle.words.specs.Items.{byte_item, items_of};
-ghost use Rattle.notation.specs.Promises.{Says, SaysPlain, SaysPayload, SaysSample, SaysDrive, SaysCause, up_to};
+ghost use Rattle.notation.specs.Promises.{SaysCause, said, up_to};
 ghost use Rattle.notation.specs.Meanings.{meaning_of, plain_meaning, named_command, create_meaning, command_meaning, named_meaning};
 ghost use Rattle.notation.specs.Meanings.{access_meaning, entry_meaning, sub_index_of, sample_meaning, drive_meaning};
 
 use crate::Call;
-use crate::bytes::last_bytes;
+use crate::bytes::{filled, last_bytes};
 use crate::messages::{receive, transmit};
 use crate::parts::{end, past_slash, small};
 use crate::requests::request;
@@ -18,18 +18,9 @@ use words::numbers::hexadecimal;
 use words::split::{after_word, content, first_word, is_blank, until};
 
 // Words are compared by ==, since a match on byte strings leaves a goal for each byte at which a word can differ.
-// The buffers are lent filled with zeros: a sample, a drive, a transmit or a request without them gets the first of those.
 #[tactic(auto, using(crate::proofs::Laws::next), unfolding(crate::specs::Meanings::meaning_of, crate::specs::Meanings::words_meaning))]
-pub fn understand(
-    line: &[u8],
-    payload: &mut [u8; 512],
-    bytes: &mut [u8; 64],
-    numbers: &mut [i16; 64],
-    events: &mut [u8; 64],
-) -> Result<Call, Expected>
-    requires { (bytes.old ≡ replicate 64 0) × (numbers.old ≡ replicate 64 (pos 0)) × (events.old ≡ replicate 64 0) }
-    ensures { Says (meaning_of line.now) result
-        payload.new bytes.new numbers.new events.new }
+pub fn understand(line: &[u8]) -> Result<Call, Expected>
+    ensures { said result ≡ meaning_of line.now }
 {
     let text = content(line);
     let word = first_word(text);
@@ -38,27 +29,27 @@ pub fn understand(
         return Ok(Call::Nothing);
     }
     if word == b"sample".as_slice() {
-        return sample(rest, bytes, numbers, events);
+        return sample(rest);
     }
     if word == b"drive".as_slice() {
-        return drive(rest, bytes, numbers);
+        return drive(rest);
     }
     if word == b"receive".as_slice() {
-        return receive(rest, bytes);
+        return receive(rest);
     }
     if word == b"transmit".as_slice() {
-        return transmit(rest, bytes);
+        return transmit(rest);
     }
     if word == b"request".as_slice() {
-        return request(rest, bytes, events);
+        return request(rest);
     }
-    plain_call(word, rest, payload)
+    plain_call(word, rest)
 }
 
 // The calls that bring no buffers.
 #[tactic(auto, using(words::proofs::SplitLaws::is_word_is), unfolding(crate::specs::Meanings::plain_meaning))]
-fn plain_call(word: &[u8], rest: &[u8], payload: &mut [u8; 512]) -> Result<Call, Expected>
-    ensures { SaysPayload (plain_meaning word.now (words_of rest.now)) result payload.new }
+fn plain_call(word: &[u8], rest: &[u8]) -> Result<Call, Expected>
+    ensures { said result ≡ plain_meaning word.now (words_of rest.now) }
 {
     if word == b"create".as_slice() {
         return create(rest);
@@ -72,13 +63,13 @@ fn plain_call(word: &[u8], rest: &[u8], payload: &mut [u8; 512]) -> Result<Call,
     if word == b"clear".as_slice() {
         return cause(rest).map(Call::Clear);
     }
-    named_command(word, rest, payload)
+    named_command(word, rest)
 }
 
 // The commands that have names of their own; any other word is an entry.
 #[tactic(auto, using(words::proofs::SplitLaws::is_word_is), unfolding(crate::specs::Meanings::named_command))]
-fn named_command(word: &[u8], rest: &[u8], payload: &mut [u8; 512]) -> Result<Call, Expected>
-    ensures { SaysPayload (named_command word.now (words_of rest.now)) result payload.new }
+fn named_command(word: &[u8], rest: &[u8]) -> Result<Call, Expected>
+    ensures { said result ≡ named_command word.now (words_of rest.now) }
 {
     if word == b"start".as_slice() {
         return command_to(1, rest);
@@ -95,12 +86,12 @@ fn named_command(word: &[u8], rest: &[u8], payload: &mut [u8; 512]) -> Result<Ca
     if word == b"reset-communication".as_slice() {
         return command_to(130, rest);
     }
-    access(word, rest, payload)
+    access(word, rest)
 }
 
 #[tactic(auto, using(crate::proofs::Laws::next), unfolding(crate::specs::Meanings::create_meaning))]
 fn create(rest: &[u8]) -> Result<Call, Expected>
-    ensures { SaysPlain (create_meaning (words_of rest.now)) result }
+    ensures { said result ≡ create_meaning (words_of rest.now) }
 {
     let node = small(first_word(rest))?;
     end(after_word(rest))?;
@@ -109,7 +100,7 @@ fn create(rest: &[u8]) -> Result<Call, Expected>
 
 #[tactic(auto, using(crate::proofs::Laws::next), unfolding(crate::specs::Meanings::command_meaning))]
 fn command(rest: &[u8]) -> Result<Call, Expected>
-    ensures { SaysPlain (command_meaning (words_of rest.now)) result }
+    ensures { said result ≡ command_meaning (words_of rest.now) }
 {
     let code = small(first_word(rest))?;
     let more = after_word(rest);
@@ -121,7 +112,7 @@ fn command(rest: &[u8]) -> Result<Call, Expected>
 // A command by name, for all nodes unless a number follows.
 #[tactic(auto, using(crate::proofs::Laws::next), unfolding(crate::specs::Meanings::named_meaning))]
 fn command_to(code: u8, rest: &[u8]) -> Result<Call, Expected>
-    ensures { SaysPlain (named_meaning code (words_of rest.now)) result }
+    ensures { said result ≡ named_meaning code (words_of rest.now) }
 {
     if is_blank(rest) {
         return Ok(Call::Command(code, 0));
@@ -149,19 +140,19 @@ fn cause(rest: &[u8]) -> Result<Cause, Expected>
 
 // A read or a write of the entry that a word names.
 #[tactic(auto, unfolding(crate::specs::Meanings::access_meaning))]
-fn access(word: &[u8], rest: &[u8], payload: &mut [u8; 512]) -> Result<Call, Expected>
-    ensures { SaysPayload (access_meaning word.now (words_of rest.now)) result payload.new }
+fn access(word: &[u8], rest: &[u8]) -> Result<Call, Expected>
+    ensures { said result ≡ access_meaning word.now (words_of rest.now) }
 {
     let colon = until(word, b':');
     let index = hexadecimal(&word[..colon], 4).ok_or(Expected::Call)?;
     let sub = sub_index(&word[colon..])?;
-    entry(index, sub, rest, payload)
+    entry(index, sub, rest)
 }
 
 // A read where nothing follows, a write of the bytes after a `=`.
 #[tactic(auto, using(crate::proofs::Laws::next))]
-fn entry(index: u16, sub: u8, rest: &[u8], payload: &mut [u8; 512]) -> Result<Call, Expected>
-    ensures { SaysPayload (entry_meaning index sub (words_of rest.now)) result payload.new }
+fn entry(index: u16, sub: u8, rest: &[u8]) -> Result<Call, Expected>
+    ensures { said result ≡ entry_meaning index sub (words_of rest.now) }
 {
     if is_blank(rest) {
         return Ok(Call::Read(index, sub));
@@ -169,8 +160,7 @@ fn entry(index: u16, sub: u8, rest: &[u8], payload: &mut [u8; 512]) -> Result<Ca
     if first_word(rest) != b"=".as_slice() {
         return Err(Expected::Data);
     }
-    let count = last_bytes(after_word(rest), payload)?;
-    Ok(Call::Write(index, sub, count))
+    Ok(Call::Write(index, sub, last_bytes(after_word(rest))?))
 }
 
 // What follows an index: nothing, for sub-index 0, or a colon and a sub-index.
@@ -184,37 +174,29 @@ fn sub_index(word: &[u8]) -> Result<u8, Expected>
 }
 
 #[tactic(auto, using(crate::proofs::Laws::next))]
-fn sample(
-    rest: &[u8],
-    bytes: &mut [u8; 64],
-    numbers: &mut [i16; 64],
-    events: &mut [u8; 64],
-) -> Result<Call, Expected>
-    requires { events.old ≡ replicate 64 0 }
-    ensures { SaysSample (sample_meaning (items_of byte_item 64 (words_of rest.now))) result
-        bytes.new numbers.new events.new }
+fn sample(rest: &[u8]) -> Result<Call, Expected>
+    ensures { said result ≡ sample_meaning (items_of byte_item 64 (words_of rest.now)) }
 {
-    let digital = read_items(rest, bytes)?;
-    let analogue = read_items(past_slash(digital.rest)?, numbers)?;
+    let digital = read_items(rest)?;
+    let analogue = read_items(past_slash(digital.rest)?)?;
     if is_blank(analogue.rest) {
-        return Ok(Call::Sample(digital.count, analogue.count, 16));
+        return Ok(Call::Sample(digital.items, analogue.items, filled(&[0; 16])));
     }
-    let count = last_bytes(after_word(analogue.rest), events)?;
-    Ok(Call::Sample(digital.count, analogue.count, count))
+    let events = last_bytes(after_word(analogue.rest))?;
+    Ok(Call::Sample(digital.items, analogue.items, events))
 }
 
 #[tactic(auto, using(crate::proofs::Laws::next), unfolding(crate::specs::Meanings::drive_meaning))]
-fn drive(rest: &[u8], bytes: &mut [u8; 64], numbers: &mut [i16; 64]) -> Result<Call, Expected>
-    requires { (bytes.old ≡ replicate 64 0) × (numbers.old ≡ replicate 64 (pos 0)) }
-    ensures { SaysDrive (drive_meaning (words_of rest.now)) result bytes.new numbers.new }
+fn drive(rest: &[u8]) -> Result<Call, Expected>
+    ensures { said result ≡ drive_meaning (words_of rest.now) }
 {
     if is_blank(rest) {
-        return Ok(Call::Drive(16, 8));
+        return Ok(Call::Drive(filled(&[0; 16]), filled(&[0; 8])));
     }
-    let lines = read_items(rest, bytes)?;
-    let channels = read_items(past_slash(lines.rest)?, numbers)?;
+    let lines = read_items(rest)?;
+    let channels = read_items(past_slash(lines.rest)?)?;
     if !is_blank(channels.rest) {
         return Err(Expected::Signed);
     }
-    Ok(Call::Drive(lines.count, channels.count))
+    Ok(Call::Drive(lines.items, channels.items))
 }

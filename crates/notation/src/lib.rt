@@ -1,6 +1,7 @@
 // The notation of a list of calls: a line as a call.
 #![tactic(auto)]
 
+use arrayvec::ArrayVec;
 use profile::{Cause, Message};
 
 // Bytes up to a line's end.
@@ -14,8 +15,8 @@ mod parts;
 // A request, by the words after it.
 mod requests;
 
-// What a line says. Its data stand in the buffers lent to the reader.
-#[derive(Clone, Copy)]
+// What a line says, with its data.
+#[derive(Drop)]
 pub enum Call {
     // An empty line, or a comment.
     Nothing,
@@ -23,20 +24,20 @@ pub enum Call {
     Create(u8),
     // Index, sub-index.
     Read(u16, u8),
-    // Index, sub-index, count of bytes.
-    Write(u16, u8, usize),
-    // Counts of digital bytes, of analogue numbers and of event bytes.
-    Sample(usize, usize, usize),
+    // Index, sub-index, bytes.
+    Write(u16, u8, ArrayVec<u8, 512>),
+    // Digital bytes, analogue numbers, event bytes.
+    Sample(ArrayVec<u8, 64>, ArrayVec<i16, 64>, ArrayVec<u8, 64>),
     // Code, node number.
     Command(u8, u8),
     Raise(Cause),
     Clear(Cause),
-    // Counts of bytes and of numbers.
-    Drive(usize, usize),
-    // Count of the frame's bytes.
-    Receive(Message, usize),
-    // Count of the bytes of the frame as it is lent.
-    Transmit(Message, usize),
-    // Counts of the request's bytes and of the bytes of the reply as it is lent.
-    Request(usize, usize),
+    // Bytes, numbers.
+    Drive(ArrayVec<u8, 64>, ArrayVec<i16, 64>),
+    // The frame's bytes.
+    Receive(Message, ArrayVec<u8, 64>),
+    // The bytes of the frame as it is lent.
+    Transmit(Message, ArrayVec<u8, 64>),
+    // The request's bytes, and the bytes of the reply as it is lent.
+    Request(ArrayVec<u8, 64>, ArrayVec<u8, 64>),
 }

@@ -1,44 +1,41 @@
 // A receive or a transmit, by the words after it.
-ghost use Rattle.std.specs.Prelude.{◌≡◌, cond, replicate};
+ghost use Rattle.std.specs.Prelude.{◌≡◌, cond};
 ghost use Rattle.words.specs.Words.{words_of};
 ghost use Rattle.words.specs.Numbers.{number_of};
-ghost use Rattle.notation.specs.Promises.{SaysFrame};
+ghost use Rattle.notation.specs.Promises.{said};
 ghost use Rattle.notation.specs.Meanings.{message_of, no_message, message_meaning, receive_meaning, transmit_meaning};
 
 use crate::Call;
-use crate::bytes::last_bytes;
+use crate::bytes::{filled, last_bytes};
 use crate::parts::end;
+use arrayvec::ArrayVec;
 use profile::Message;
 use words::Expected;
 use words::numbers::decimal;
 use words::split::{after_word, first_word, is_blank};
 
 #[tactic(auto, using(crate::proofs::Laws::sent))]
-pub fn receive(rest: &[u8], bytes: &mut [u8; 64]) -> Result<Call, Expected>
-    ensures { SaysFrame (message_meaning receive_meaning (words_of rest.now)) result bytes.new }
+pub fn receive(rest: &[u8]) -> Result<Call, Expected>
+    ensures { said result ≡ message_meaning receive_meaning (words_of rest.now) }
 {
     let message = message(first_word(rest))?;
-    let count = last_bytes(after_word(rest), bytes)?;
-    Ok(Call::Receive(message, count))
+    Ok(Call::Receive(message, last_bytes(after_word(rest))?))
 }
 
-// The buffer is lent filled with zeros: a transmit without bytes gets the first of those.
 #[tactic(auto, using(crate::proofs::Laws::sent))]
-pub fn transmit(rest: &[u8], bytes: &mut [u8; 64]) -> Result<Call, Expected>
-    requires { bytes.old ≡ replicate 64 0 }
-    ensures { SaysFrame (message_meaning transmit_meaning (words_of rest.now)) result bytes.new }
+pub fn transmit(rest: &[u8]) -> Result<Call, Expected>
+    ensures { said result ≡ message_meaning transmit_meaning (words_of rest.now) }
 {
     let message = message(first_word(rest))?;
     let frame = after_word(rest);
     if is_blank(frame) {
-        return Ok(Call::Transmit(message, 8));
+        return Ok(Call::Transmit(message, filled(&[0; 8])));
     }
     if first_word(frame) == b"/".as_slice() {
         end(after_word(frame))?;
-        return Ok(Call::Transmit(message, 0));
+        return Ok(Call::Transmit(message, ArrayVec::new()));
     }
-    let count = last_bytes(frame, bytes)?;
-    Ok(Call::Transmit(message, count))
+    Ok(Call::Transmit(message, last_bytes(frame)?))
 }
 
 // The message of a number from 1 to 4.

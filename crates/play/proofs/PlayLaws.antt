@@ -1,9 +1,10 @@
--- A call that was counted and answered was played.
+-- A call that was answered and counted was played.
 -- Assumes nothing.
-use Rattle.std.proofs.Common.{◌≡◌, ℕ, ◌+◌, ◌≤◌, Bool, not, eqb, List, [], ◌∷◌, ◌++◌, length, take, ℤ, sym, refl, ap, ◌∙◌, subst, add-zero, arith, Result, Ok, Err}
-use lib.Seq.{sets}
-use Rattle.profile.specs.declared.Message.{Message}
-use Rattle.profile.specs.Calls.{sample, drive, Call, direct, receive, transmit, request, Reply}
+use Rattle.std.proofs.Common.{◌≡◌, ℕ, ◌≤◌, not, eqb, List, [], ◌∷◌, ◌++◌, length, take, drop, ℤ, sym, refl, ap, ◌∙◌, subst, arith}
+use Rattle.std.proofs.Common.{Result, Ok, Err}
+use Rattle.std.specs.List.{refill}
+use Rattle.arrayvec.specs.ArrayVec.{ArrayVec}
+use Rattle.profile.specs.Calls.{Call, Reply}
 use Rattle.profile.specs.Refusals.{create_refusal, created_number}
 use Rattle.profile.specs.Heard.{Machines, fresh_machines, step_all}
 use Rattle.profile.specs.Replies.{reply}
@@ -11,25 +12,21 @@ use Rattle.profile.specs.Outcome.{Same}
 use Rattle.device.specs.declared.Device.{Device}
 use Rattle.profile.specs.declared.refusals.Refusal.{Refusal}
 use Rattle.profile.specs.declared.ReadValue.{ReadValue}
-use Rattle.profile.specs.Numbers.{refusal_number, number_answered}
-use Rattle.profile.specs.Answers.{plain_answer, read_answer, sample_answer, drive_answer, buffer_answer}
+use Rattle.profile.specs.Numbers.{number_answered}
+use Rattle.profile.specs.Answers.{read_answer, sample_answer, drive_answer, buffer_answer}
 use Rattle.device.specs.View.{machines_of}
 use Rattle.device.specs.Promises.{CreatedAs, Ensured}
-use Rattle.texts.specs.Texts.{Put}
-use Rattle.answers.specs.Answers.{plain_line, sample_line, drive_line, receive_line, frame_line}
-use Rattle.frame_answers.specs.FrameAnswers.{reply_line}
-use Rattle.notation.specs.declared.Call.{Call as Asked}
-use Rattle.words.specs.declared.Expected.{Expected}
-use Rattle.answers.proofs.LengthLaws.{plain_short, sample_short, drive_short, receive_short, frame_short}
-use Rattle.frame_answers.proofs.FrameLengths.{reply_short}
+use Rattle.words.specs.Buffers.{put}
+use Rattle.words.proofs.BufferLaws.{put_none, put_whole}
+use Rattle.answers.specs.Answers.{plain_line}
+use Rattle.answers.proofs.LengthLaws.{plain_short}
 use Rattle.notation.specs.Meanings.{Meaning}
 use Rattle.notation.specs.Meanings.Meaning.{nothing, create, call}
-use Rattle.notation.specs.Promises.{said, Fitting, Says}
 use Rattle.play.specs.declared.session.Session.{Session}
-use Rattle.play.specs.Playing.{is_active, is_long, is_stopped, answer_line}
+use Rattle.play.specs.Playing.{answer_for, answer_line}
 use Rattle.play.specs.Sessions.{counted, full, Aside, Counted, Played, PlayedWhole}
 
--- what a call leaves of the part that it was lent stands in front of the rest
+-- a list in front of another
 pub front_is : {A : Type 0} (n : ℕ) (left rest : List A) → length left ≡ n → take n (left ++ rest) ≡ left
 front_is {A = A} n left rest e = ap (λ k. take k (left ++ rest)) (sym e) ∙ at left
   where
@@ -37,171 +34,137 @@ front_is {A = A} n left rest e = ap (λ k. take k (left ++ rest)) (sym e) ∙ at
     at [] = refl
     at (x ∷ l) = ap (λ (m : List A). x ∷ m) (at l)
 
--- the reader's answer
-abbrev Said : Type 0
-Said = Result Asked Expected
-
--- a line means what the reader's answer says
-pub as_meant : {before after : Session} {out left : List ℕ} {payload bytes : List ℕ} {numbers : List ℤ} {events : List ℕ} (m : Meaning)
-    (r s : Said) → Says m r payload bytes numbers events → r ≡ s →
-    Played before (said s payload bytes numbers events) out after left → Played before m out after left
-as_meant {before} {after} {out} {left} {payload} {bytes} {numbers} {events} m r s w e p =
-    subst (λ (x : Meaning). Played before x out after left) (ap (λ (x : Said). said x payload bytes numbers events) (sym e) ∙ w.is) p
-
--- its data lie within the buffers
-pub fits_as : (m : Meaning) (r s : Said) {payload bytes : List ℕ} {numbers : List ℤ} {events : List ℕ}
-    → Says m r payload bytes numbers events → r ≡ s → Fitting s
-fits_as m r s w e = subst (λ (x : Said). Fitting x) e w.fits
+-- what a call left in a buffer's elements is what the buffer holds
+pub lent_back : {A : Type 0} (held lent left shown : List A) → lent ≡ held → length left ≡ length lent
+    → shown ≡ refill (length held) held left → shown ≡ left
+lent_back held lent left shown e k s = s ∙ front_is (length held) left (drop (length left) held) (k ∙ ap length e)
 
 -- the number of a call's answer is that of its reply
 pub read_number : (a : Result ReadValue Refusal) → number_answered a ≡ (read_answer a).number
 read_number (Ok v) = refl
 read_number (Err r) = refl
 
-pub counted_as : {A : Type 0} (a : Result A Refusal) {n : ℕ} {before after : Session} {d : Device} {place : ℕ} → number_answered a ≡ n
-    → Counted before d (number_answered a) place after → Counted before d n place after
-counted_as a {n} {before} {after} {d} {place} e k = subst (λ (x : ℕ). Counted before d x place after) e k
+pub sample_number : (a : Result ℕ Refusal) (shown : List ℕ) → number_answered a ≡ (sample_answer a shown).number
+sample_number (Ok n) shown = refl
+sample_number (Err r) shown = refl
+
+pub drive_number : (a : Result (Unit {0}) Refusal) (bytes : List ℕ) (numbers : List ℤ)
+    → number_answered a ≡ (drive_answer a bytes numbers).number
+drive_number (Ok u) bytes numbers = refl
+drive_number (Err r) bytes numbers = refl
+
+pub buffer_number : (a : Result ℕ Refusal) (shown : List ℕ) → number_answered a ≡ (buffer_answer a shown).number
+buffer_number (Ok n) shown = refl
+buffer_number (Err r) shown = refl
+
+-- the buffers that a reply shows are those that the call left
+pub sample_shown : (a : Result ℕ Refusal) (shown : List ℕ) → (sample_answer a shown).bytes ≡ shown
+sample_shown (Ok n) shown = refl
+sample_shown (Err r) shown = refl
+
+pub lines_shown : (a : Result (Unit {0}) Refusal) (bytes : List ℕ) (numbers : List ℤ) → (drive_answer a bytes numbers).bytes ≡ bytes
+lines_shown (Ok u) bytes numbers = refl
+lines_shown (Err r) bytes numbers = refl
+
+pub channels_shown : (a : Result (Unit {0}) Refusal) (bytes : List ℕ) (numbers : List ℤ) → (drive_answer a bytes numbers).numbers ≡ numbers
+channels_shown (Ok u) bytes numbers = refl
+channels_shown (Err r) bytes numbers = refl
+
+pub buffer_shown : (a : Result ℕ Refusal) (shown : List ℕ) → (buffer_answer a shown).bytes ≡ shown
+buffer_shown (Ok n) shown = refl
+buffer_shown (Err r) shown = refl
+
+-- the session with other output
+abbrev pub with_out : Session → ArrayVec ℕ → Session
+with_out s out = record {
+  device = s.device;
+  calls = s.calls;
+  refused = s.refused;
+  unknown = s.unknown;
+  lines = s.lines;
+  met = s.met;
+  unmet = s.unmet;
+  line = s.line;
+  answer = s.answer;
+  out = out;
+  progress = s.progress;
+}
 
 pub same_aside : (s : Session) → Aside s s
-same_aside s = record { lines = refl; length = refl; answer = refl; met = refl; unmet = refl; progress = refl }
+same_aside s = record { lines = refl; line = refl; answer = refl; met = refl; unmet = refl; progress = refl }
 
-pub not_played : (before : Session) (out : List ℕ) → Played before nothing out before out
-not_played before out = record {
+pub not_played : (s : Session) → Played s nothing s
+not_played s = record {
   machines = record { at = λ k i h. refl };
-  answered = record { kept = refl; inside = λ h. h; moved = λ h. sym (add-zero before.at); written = λ h. refl };
+  answered = sym (put_none 8192 s.out.items);
   short = omega arith;
-  text = λ h. refl;
-  place = λ h. sym (add-zero before.at);
   calls = refl;
   refused = refl;
   unknown = refl;
-  aside = same_aside before;
+  aside = same_aside s;
 }
 
--- text of at most a kilobyte, put where the block has a kilobyte left
-module _ (text out : List ℕ) (at : ℕ) (left : List ℕ) (next : ℕ) (p : Put text out at left next) (b : length text ≤ 1024)
-    (l : length out ≡ 8192) where
-  pub all_written : at ≤ full → left ≡ sets out at text
-  all_written h = p.written (omega (arith, h, b, l))
-
-  pub all_moved : at ≤ full → next ≡ at + length text
-  all_moved h = p.moved (omega (arith, h, b, l))
-
-module _ (before : Session) (out left : List ℕ) (after : Session) where
+module _ (before : Session) (after : Session) where
   abbrev was : Machines
   was = machines_of before.device
 
-  pub called : (c : Call) (r : Reply) (d : Device) (place : ℕ) → Ensured before.device c r d → Counted before d r.number place after →
-      Put (answer_line was c r) out before.at left place → length (answer_line was c r) ≤ 1024 → length out ≡ 8192 → Played before
-      (call c) out after left
-  called c r d place kept k p b l =
-      let o = kept.outcome in
-      let put : Put (answer_line was c (reply was c)) out before.at left after.at =
-      subst (λ (x : Reply). Put (answer_line was c x) out before.at left after.at) o.replied
-      (subst (λ n. Put (answer_line was c r) out before.at left n) (sym k.at) p) in
-      let few : length (answer_line was c (reply was c)) ≤ 1024 = subst
-      (λ (x : Reply). length (answer_line was c x) ≤ 1024) o.replied b in
+  -- other output is none of what stays
+  beside : {out : ArrayVec ℕ} → Aside (with_out before out) after → Aside before after
+  beside a = record {
+    lines = a.lines;
+    line = a.line;
+    answer = a.answer;
+    met = a.met;
+    unmet = a.unmet;
+    progress = a.progress;
+  }
+
+  pub called : (c : Call) (r : Reply) (d : Device) (n : ℕ) (out : ArrayVec ℕ) → Ensured before.device c r d → n ≡ r.number
+      → Counted (with_out before out) d n after → out.items ≡ put 8192 before.out.items (answer_line was c r)
+      → length (answer_line was c r) ≤ 1024 → Played before (call c) after
+  called c r d n out kept e k p b =
+      let replied : r ≡ reply was c = kept.outcome.replied in
       record {
-        machines = subst (λ (x : Device). Same (machines_of x) (step_all c was)) (sym k.device) o.machines;
-        answered = put;
-        short = few;
-        text = all_written (answer_line was c (reply was c)) out before.at left after.at put few l;
-        place = all_moved (answer_line was c (reply was c)) out before.at left after.at put few l;
+        machines = subst (λ (x : Device). Same (machines_of x) (step_all c was)) (sym k.device) kept.outcome.machines;
+        answered = ap (λ (v : ArrayVec ℕ). v.items) k.out ∙ p ∙ ap (λ (x : Reply). put 8192 before.out.items (answer_line was c x)) replied;
+        short = subst (λ (x : Reply). length (answer_line was c x) ≤ 1024) replied b;
         calls = k.calls;
-        refused = k.refused ∙ ap (λ (x : Reply). counted (not (eqb x.number 0)) before.refused) o.replied;
+        refused = k.refused ∙ ap (λ x. counted (not (eqb x 0)) before.refused) (e ∙ ap (λ (x : Reply). x.number) replied);
         unknown = k.unknown;
-        aside = k.aside;
+        aside = beside k.aside;
       }
 
-  -- a sample and a drive, by what the device answered
-  pub sampled : (digital : List ℕ) (analogue : List ℤ) (events shown : List ℕ) (a : Result ℕ Refusal) (d : Device) (place : ℕ)
-      → Ensured before.device (direct (sample digital analogue events)) (sample_answer a shown) d
-      → Counted before d (number_answered a) place after
-      → Put (sample_line (sample_answer a shown).number shown (sample_answer a shown).events) out before.at left place
-      → length shown ≤ 64 → length out ≡ 8192 → Played before (call (direct (sample digital analogue events))) out after left
-  sampled digital analogue events shown (Ok n) d place o k p h l =
-      called (direct (sample digital analogue events)) (sample_answer (Ok n) shown) d place o k p (sample_short 0 shown n h) l
-  sampled digital analogue events shown (Err r) d place o k p h l =
-      called (direct (sample digital analogue events)) (sample_answer (Err r) shown) d place o k p (sample_short (refusal_number r) shown 0 h) l
-
-  pub driven : (lines : List ℕ) (channels : List ℤ) (a : Result (Unit {0}) Refusal) (bytes : List ℕ) (numbers : List ℤ) (d : Device)
-      (place : ℕ) → Ensured before.device (direct (drive lines channels)) (drive_answer a bytes numbers) d
-      → Counted before d (number_answered a) place after → Put (drive_line (number_answered a) bytes numbers) out before.at left place
-      → length bytes ≤ 64 → length numbers ≤ 64 → length out ≡ 8192 → Played before (call (direct (drive lines channels))) out after left
-  driven lines channels (Ok u) bytes numbers d place o k p h g l =
-      called (direct (drive lines channels)) (drive_answer (Ok u) bytes numbers) d place o k p (drive_short 0 bytes numbers h g) l
-  driven lines channels (Err r) bytes numbers d place o k p h g l =
-      called (direct (drive lines channels)) (drive_answer {A = Unit {0}} (Err r) bytes numbers) d place o k p
-      (drive_short (refusal_number r) bytes numbers h g) l
-
-  -- a receive and a transmit, with what the code has found of the node and of the frame
-  module _ (message : Message) (frame : List ℕ) (r : Reply) (d : Device) (place : ℕ) (k : Counted before d r.number place after)
-      (l : length out ≡ 8192) (active : Bool) (a : active ≡ is_active was) where
-    pub received : (long : Bool) → Ensured before.device (receive message frame) r d → long ≡ is_long was message frame
-        → Put (receive_line r.number active long) out before.at left place
-        → Played before (call (receive message frame)) out after left
-    received long kept e p = called (receive message frame) r d place kept k
-        (subst (λ (b : Bool). Put (receive_line r.number b (is_long was message frame)) out before.at left place) a
-        (subst (λ (b : Bool). Put (receive_line r.number active b) out before.at left place) e p))
-        (receive_short r.number (is_active was) (is_long was message frame)) l
-
-    pub transmitted : (bytes : List ℕ) → Ensured before.device (transmit message frame) r d → bytes ≡ r.bytes → length r.bytes ≤ 64
-        → Put (frame_line r.number bytes r.count active) out before.at left place
-        → Played before (call (transmit message frame)) out after left
-    transmitted bytes kept e h p = called (transmit message frame) r d place kept k
-        (subst (λ (b : Bool). Put (frame_line r.number r.bytes r.count b) out before.at left place) a
-        (subst (λ (m : List ℕ). Put (frame_line r.number m r.count active) out before.at left place) e p))
-        (frame_short r.number r.bytes r.count (is_active was) h) l
-
-  -- a request, with what the code has found of the node
-  module _ (frame buffer : List ℕ) (r : Reply) (d : Device) (place : ℕ) (k : Counted before d r.number place after)
-      (l : length out ≡ 8192) (stopped : Bool) (a : stopped ≡ is_stopped was) where
-    pub requested : (bytes : List ℕ) → Ensured before.device (request frame buffer) r d → bytes ≡ r.bytes → length r.bytes ≤ 64
-        → Put (reply_line r.number bytes r.count stopped) out before.at left place
-        → Played before (call (request frame buffer)) out after left
-    requested bytes kept e h p = called (request frame buffer) r d place kept k
-        (subst (λ (b : Bool). Put (reply_line r.number r.bytes r.count b) out before.at left place) a
-        (subst (λ (m : List ℕ). Put (reply_line r.number m r.count stopped) out before.at left place) e p))
-        (reply_short r.number r.bytes r.count (is_stopped was) h) l
-
-  -- the same by what the device answered
-  pub transmitted_as : (message : Message) (frame shown : List ℕ) (a : Result ℕ Refusal) (d : Device) (place : ℕ)
-      → Counted before d (number_answered a) place after → length out ≡ 8192 → (active : Bool) → active ≡ is_active was → (bytes : List ℕ)
-      → Ensured before.device (transmit message frame) (buffer_answer a shown) d → bytes ≡ shown → length shown ≤ 64
-      → Put (frame_line (buffer_answer a bytes).number bytes (buffer_answer a bytes).count active) out before.at left place
-      → Played before (call (transmit message frame)) out after left
-  transmitted_as message frame shown (Ok n) d place k l active q bytes o e h p =
-      transmitted message frame (buffer_answer (Ok n) shown) d place k l active q bytes o e h p
-  transmitted_as message frame shown (Err r) d place k l active q bytes o e h p =
-      transmitted message frame (buffer_answer (Err r) shown) d place k l active q bytes o e h p
-
-  pub requested_as : (frame buffer shown : List ℕ) (a : Result ℕ Refusal) (d : Device) (place : ℕ)
-      → Counted before d (number_answered a) place after → length out ≡ 8192 → (stopped : Bool) → stopped ≡ is_stopped was → (bytes : List ℕ)
-      → Ensured before.device (request frame buffer) (buffer_answer a shown) d → bytes ≡ shown → length shown ≤ 64
-      → Put (reply_line (buffer_answer a bytes).number bytes (buffer_answer a bytes).count stopped) out before.at left place
-      → Played before (call (request frame buffer)) out after left
-  requested_as frame buffer shown (Ok n) d place k l stopped q bytes o e h p =
-      requested frame buffer (buffer_answer (Ok n) shown) d place k l stopped q bytes o e h p
-  requested_as frame buffer shown (Err r) d place k l stopped q bytes o e h p =
-      requested frame buffer (buffer_answer (Err r) shown) d place k l stopped q bytes o e h p
-
-  pub created : (node : ℕ) (answer : Result (Unit {0}) Refusal) (d : Device) (place : ℕ) → CreatedAs node answer d
-      → Counted before d (number_answered answer) place after → Put (plain_line (number_answered answer)) out before.at left place → length out ≡ 8192 → Played before (create node) out after left
-  created node answer d place o k p l =
-      let put : Put (plain_line (create_refusal node)) out before.at left after.at =
-      subst (λ n. Put (plain_line n) out before.at left after.at) o.numbered
-      (subst (λ n. Put (plain_line (number_answered answer)) out before.at left n) (sym k.at) p) in
+  pub created : (node : ℕ) (answer : Result (Unit {0}) Refusal) (d : Device) (out : ArrayVec ℕ) → CreatedAs node answer d
+      → Counted (with_out before out) d (number_answered answer) after
+      → out.items ≡ put 8192 before.out.items (plain_line (number_answered answer)) → Played before (create node) after
+  created node answer d out o k p =
       record {
         machines = subst (λ (x : Device). Same (machines_of x) (fresh_machines (created_number node))) (sym k.device) o.machines;
-        answered = put;
+        answered = ap (λ (v : ArrayVec ℕ). v.items) k.out ∙ p ∙ ap (λ n. put 8192 before.out.items (plain_line n)) o.numbered;
         short = plain_short (create_refusal node);
-        text = all_written (plain_line (create_refusal node)) out before.at left after.at put (plain_short (create_refusal node)) l;
-        place = all_moved (plain_line (create_refusal node)) out before.at left after.at put (plain_short (create_refusal node)) l;
         calls = k.calls;
         refused = k.refused ∙ ap (λ n. counted (not (eqb n 0)) before.refused) o.numbered;
         unknown = k.unknown;
-        aside = k.aside;
+        aside = beside k.aside;
       }
 
-  pub whole : (m : Meaning) → before.at ≤ full → Played before m out after left → PlayedWhole before m out after left
-  whole m h p = record { played = p; text = p.text h; place = p.place h }
+  -- where the output has a kilobyte left, the answer stands behind it whole
+  pub whole : (m : Meaning) → length before.out.items ≤ full → Played before m after → PlayedWhole before m after
+  whole m h p = record {
+    played = p;
+    text = p.answered ∙ put_whole 8192 before.out.items (answer_for before.lines was m) (omega (arith, h, p.short));
+  }
+
+-- a call with its buffers, whatever it answers
+pub ruleset calls = (
+  called,
+  lent_back,
+  read_number,
+  sample_number,
+  sample_shown,
+  drive_number,
+  lines_shown,
+  channels_shown,
+  buffer_number,
+  buffer_shown,
+)

@@ -1,6 +1,5 @@
 -- Laws of text that is put into a buffer, and that what is printed reads back.
 -- Assumes nothing.
-pub mod PutLaws
 pub mod TableLaws
 pub mod TextLaws
 pub mod ReadBack

@@ -1,17 +1,16 @@
 -- Tables of words: a table kept as one text, with `;` between the entries, says the table's words. (The code keeps each text by itself,
 -- in a `match`; see `crates/answers/src/tables.rt`.)
 -- Assumes nothing.
-use mathlib.Core.Path.{◌≡◌, refl, ap, subst, ◌∙◌}
+use mathlib.Core.Path.{◌≡◌, refl, ap, ◌∙◌}
 use mathlib.Core.Bool.{Bool, true, false, cond}
 use mathlib.Core.List.{List, [], ◌∷◌}
-use Prim.Native.Nat.{ℕ, zero, suc, ◌-◌, ◌<◌}
-use native.Mathlib.Numerals.{sub-one}
+use Prim.Native.Nat.{ℕ, zero, suc, ◌<◌}
 use native.Mathlib.Omega.{arith}
 use lib.Dec.{eqb}
 use lib.ListN.{length, take, drop, get_or}
-use Rattle.words.specs.Words.{run, InFront}
+use Rattle.words.specs.Words.{run}
 use Rattle.texts.specs.Tables.{Row, text_of}
-use Rattle.texts.specs.Texts.{Put}
+use Rattle.words.specs.Buffers.{put}
 use Rattle.words.proofs.RunLaws.{run_within}
 
 -- the nth entry of such a text
@@ -20,21 +19,10 @@ entry_of zero text = take (run false 59 text) text
 entry_of (suc n) text = entry_of n (drop 1 (drop (run false 59 text) text))
 
 -- what was put for a number is the entry of its place among the numbers; the last entry where it is none of them
-pub record PutFrom (numbers text : List ℕ) (n : ℕ) (before : List ℕ) (at : ℕ) (after : List ℕ) (next : ℕ) : Type 0 where
-  pub put : Put (entry_of (run false n numbers) text) before at after next
+pub record PutFrom (numbers text : List ℕ) (n most : ℕ) (before after : List ℕ) : Type 0 where
+  pub put : after ≡ put most before (entry_of (run false n numbers) text)
 
 -- ---- an entry of a text
-
-pub entry_first : (n : ℕ) (text r : List ℕ) (end : ℕ) → n ≡ 0 → InFront false 59 text end → r ≡ take end text → r ≡ entry_of n text
-entry_first zero text r end z f e = e ∙ ap (λ k. take k text) f.is
-entry_first (suc n) text r end z f e = absurd (omega (arith, z))
-
-pub entry_later : (n : ℕ) (text back rest r : List ℕ) (end : ℕ) → (n ≡ 0 → ⊥) → InFront false 59 text end → back ≡ drop end text
-    → rest ≡ drop 1 back → r ≡ entry_of (n - 1) rest → r ≡ entry_of n text
-entry_later zero text back rest r end z f b d e = absurd (z refl)
-entry_later (suc n) text back rest r end z f b d e =
-    e ∙ ap (λ k. entry_of k rest) (sub-one (suc n))
-    ∙ ap (entry_of n) (d ∙ ap (λ (l : List ℕ). drop 1 l) (b ∙ ap (λ k. drop k text) f.is))
 
 -- the first k entries
 abbrev pub entries_of : ℕ → List ℕ → List (List ℕ)
@@ -74,17 +62,11 @@ text_at other (row ∷ rows) n = at (eqb row.number n) (text_at other rows n)
     at true e = refl
     at false e = e
 
-pub put_from : (numbers text r : List ℕ) (n place : ℕ) {a b : List ℕ} {i j : ℕ} → InFront false n numbers place → r ≡ entry_of place text
-    → Put r a i b j → PutFrom numbers text n a i b j
-put_from numbers text r n place {a} {b} {i} {j} f e p = record {
-  put = subst (λ (t : List ℕ). Put t a i b j) (e ∙ ap (λ k. entry_of k text) f.is) p;
-}
-
 -- where the entries are the table's texts, what is put for a number are the table's words for it
-pub table_put : (other : List ℕ) (rows : List Row) {text a b : List ℕ} {n i j : ℕ}
+pub table_put : (other : List ℕ) (rows : List Row) {text before after : List ℕ} {n most : ℕ}
     → entries_of (length (texts_of other rows)) text ≡ texts_of other rows
-    → PutFrom (numbers_of rows) text n a i b j → Put (text_of other rows n) a i b j
-table_put other rows {text} {a} {b} {n} {i} {j} e p =
+    → PutFrom (numbers_of rows) text n most before after → after ≡ put most before (text_of other rows n)
+table_put other rows {text} {before} {n = n} {most} e p =
     let place = run false n (numbers_of rows) in
     let inside : place < length (texts_of other rows) = omega (arith, run_within false n (numbers_of rows), one_more other rows) in
-    subst (λ (t : List ℕ). Put t a i b j) (entry_is (texts_of other rows) text place inside e ∙ text_at other rows n) p.put
+    p.put ∙ ap (put most before) (entry_is (texts_of other rows) text place inside e ∙ text_at other rows n)

@@ -15,14 +15,14 @@ use Rattle.std.proofs.lemmas.List.{take_more}
 use Rattle.std.specs.Int.RustNames.{unsigned_abs}
 use lib.Pow.{pow-add}
 use lib.ListN.{length, take, get_or}
-use lib.Seq.{take_all}
 use borrow.Author.Tests.{eqb-true, eqb-false, lt-ltb, le-ltb, leb-true, leb-false}
 use Rattle.io.specs.Digits.{last_digits, IsDigitCount}
 use Rattle.words.specs.Words.{first_word, after_word, words_of, is_blank}
-use Rattle.words.proofs.SplitLaws.{words_more, words_none}
-use Rattle.texts.specs.Texts.{Put, digits_of, places_of, hex_text, long_hex_text, decimal_text, bits_text, each_text, words_text}
+use Rattle.words.proofs.SplitLaws.{words_more, words_none, after_shorter}
+use Rattle.texts.specs.Texts.{digits_of, places_of, hex_text, long_hex_text, decimal_text, bits_text, each_text, words_text}
 use Rattle.texts.specs.Texts.{place_text, places_from, places_text}
-use Rattle.texts.proofs.PutLaws.{put_none, put_then, put_as}
+use Rattle.words.specs.Buffers.{put}
+use Rattle.words.proofs.BufferLaws.{put_none, put_then}
 
 -- ---- decimal digits
 
@@ -97,51 +97,45 @@ module _ {A : Type 0} (f : A → List ℕ) where
   each_snoc (y ∷ xs) x = ap (λ (l : List ℕ). f y ++ l) (each_snoc xs x) ∙ sym (append_assoc (f y) (each_text f xs) (f x))
 
   -- one element more
-  pub each_more : {a b c : List ℕ} {p q r : ℕ} (xs : List A) (i : ℕ) (d : A) → i < length xs → Put (each_text f (take i xs)) a p b q → Put
-      (f (get_or xs i d)) b q c r →
-      Put (each_text f (take (i + 1) xs)) a p c r
-  each_more xs i d h u v = put_as (ap (each_text f) (take_more xs i d h) ∙ each_snoc (take i xs) (get_or xs i d)) (put_then u v)
-
-  pub each_all : {a b : List ℕ} {p q : ℕ} (xs : List A) (i : ℕ) → length xs ≤ i → Put (each_text f (take i xs)) a p b q → Put
-      (each_text f xs) a p b q
-  each_all xs i h u = put_as (ap (each_text f) (sym (take_all i xs h))) u
+  pub each_more : (n : ℕ) (b : List ℕ) (xs : List A) (i : ℕ) (d : A) → i < length xs
+      → put n (put n b (each_text f (take i xs))) (f (get_or xs i d)) ≡ put n b (each_text f (take (i + 1) xs))
+  each_more n b xs i d h =
+      put_then n b (each_text f (take i xs)) (f (get_or xs i d))
+      ∙ ap (put n b) (sym (ap (each_text f) (take_more xs i d h) ∙ each_snoc (take i xs) (get_or xs i d)))
 
 -- ---- words
 
 -- no word is left
-pub words_put_none : (l out : List ℕ) (at : ℕ) → is_blank l ≡ true → Put (words_text (words_of l)) out at out at
-words_put_none l out at p =
-    subst (λ (ws : List (List ℕ)). Put (words_text ws) out at out at) (sym (words_none l (eqb-true (length (first_word l)) 0 p)))
-    (put_none out at)
+pub words_put_none : (l : List ℕ) → is_blank l ≡ true → words_text (words_of l) ≡ []
+words_put_none l p = ap words_text (words_none l (eqb-true (length (first_word l)) 0 p))
 
 -- the first word and those after it
-pub words_put_more : {a b c d : List ℕ} {i j k m : ℕ} (l w rest : List ℕ) → is_blank l ≡ false → w ≡ first_word l → rest ≡ after_word l
-    → Put (32 ∷ []) a i b j → Put w b j c k → Put (words_text (words_of rest)) c k d m → Put (words_text (words_of l)) a i d m
-words_put_more {a} {b} {c} {d} {i} {j} {k} {m} l w rest p f g u v t =
-    subst (λ (ws : List (List ℕ)). Put (words_text ws) a i d m)
-    (ap (λ (x : List ℕ). x ∷ words_of rest) f ∙ ap (λ (x : List ℕ). first_word l ∷ words_of x) g
-    ∙ sym (words_more l (eqb-false (length (first_word l)) 0 p)))
-    (put_then (put_then u v) t)
+pub words_put_more : (l : List ℕ) → is_blank l ≡ false
+    → words_text (words_of l) ≡ (32 ∷ []) ++ first_word l ++ words_text (words_of (after_word l))
+words_put_more l p = ap words_text (words_more l (eqb-false (length (first_word l)) 0 p))
+
+-- a word after the other
+pub ruleset each_word = (put_none, put_then, after_shorter, words_put_none, words_put_more)
 
 -- ---- places
 
 -- text that was put, and what is left of the places
-pub record Placing (bits : ℕ) (a : List ℕ) (p n rest : ℕ) (b : List ℕ) (q : ℕ) : Type 0 where
+pub record Placing (most bits : ℕ) (before : List ℕ) (n rest : ℕ) (after : List ℕ) : Type 0 where
   pub text : List ℕ
-  pub put : Put text a p b q
+  pub put : after ≡ put most before text
   pub left : text ++ places_from (17 - n) n rest ≡ places_text bits
 
-pub placing_none : (bits : ℕ) (a : List ℕ) (p : ℕ) → Placing bits a p 1 bits a p
+pub placing_none : (most bits : ℕ) (b : List ℕ) → Placing most bits b 1 bits b
 unfolding places_text
-placing_none bits a p = record { text = []; put = put_none a p; left = refl }
+placing_none most bits b = record { text = []; put = sym (put_none most b); left = refl }
 
-pub placing_more : {bits p n rest q r : ℕ} {a b c : List ℕ} → n < 17 → Placing bits a p n rest b q → Put (place_text n rest) b q c r
-    → Placing bits a p (n + 1) (rest / 2) c r
-placing_more {bits} {p} {n} {rest} {q} {r} {a} {b} {c} h u v =
+pub placing_more : {most bits n rest : ℕ} {a b c : List ℕ} → n < 17 → Placing most bits a n rest b → c ≡ put most b (place_text n rest)
+    → Placing most bits a (n + 1) (rest / 2) c
+placing_more {most} {bits} {n} {rest} {a} {b} {c} h u v =
     let e : 17 - n ≡ suc (17 - (n + 1)) = omega arith in
     record {
       text = u.text ++ place_text n rest;
-      put = put_then u.put v;
+      put = v ∙ ap (λ (l : List ℕ). put most l (place_text n rest)) u.put ∙ put_then most a u.text (place_text n rest);
       left = append_assoc u.text (place_text n rest) (places_from (17 - (n + 1)) (n + 1) (rest / 2))
           ∙ ap (λ k. u.text ++ places_from k n rest) (sym e) ∙ u.left;
     }

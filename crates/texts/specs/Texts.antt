@@ -1,16 +1,8 @@
--- Text put into a lent buffer, and numbers as text.
+-- Numbers, bytes and words as text.
 -- Assumes nothing.
-use Rattle.std.specs.Prelude.{◌≡◌, cond, List, [], ◌∷◌, ◌++◌, ℕ, zero, suc, ◌+◌, ◌-◌, ◌/◌, ◌%◌, ◌≤◌, ltb, eqb, length, ℤ}
-use Rattle.std.proofs.lemmas.List.Edits.{sets}
+use Rattle.std.specs.Prelude.{cond, List, [], ◌∷◌, ◌++◌, ℕ, zero, suc, ◌+◌, ◌-◌, ◌/◌, ◌%◌, ltb, eqb, ℤ}
 use Rattle.std.specs.Int.{w16}
 use Rattle.std.proofs.Common.{of_z}
-
--- text was put into a buffer from `at` on and ends at `next`; where it has no room, only the buffer's length is known
-pub record Put (text before : List ℕ) (at : ℕ) (after : List ℕ) (next : ℕ) : Type 0 where
-  pub kept : length after ≡ length before
-  pub inside : at ≤ length before → next ≤ length before
-  pub moved : at + length text ≤ length before → next ≡ at + length text
-  pub written : at + length text ≤ length before → after ≡ sets before at text
 
 -- a digit below 16, in upper case
 abbrev pub glyph_of : ℕ → ℕ

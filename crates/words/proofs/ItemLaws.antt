@@ -3,17 +3,18 @@
 use mathlib.Core.Path.{◌≡◌, refl, sym, ap, ◌∙◌}
 use mathlib.Core.Bool.{Bool, true, false, ◌||◌}
 use mathlib.Core.List.{List, [], ◌∷◌, ◌++◌, append-nil, append_assoc}
-use Prim.Native.Nat.{ℕ, zero, suc, ◌+◌, ◌-◌, ◌≤◌, ◌<◌}
-use native.Mathlib.Numerals.{add-one}
+use Prim.Native.Nat.{ℕ, zero, suc, ◌+◌, ◌-◌, ◌≤◌}
 use native.Mathlib.Omega.{arith}
 use lib.Dec.{eqb}
-use lib.ListN.{length, take, drop, set, length-drop, length-set}
-use lib.Seq.{take-suc-set, drop-drop}
+use Rattle.std.specs.Prelude.{nat_le}
+use lib.ListN.{length, take, drop, length-append, length-drop}
+use lib.Seq.{take-nil, drop-drop}
 use borrow.Author.Tests.{eqb-true, eqb-false}
 use Rattle.std.proofs.Common.{Ok, Err}
 use Rattle.std.proofs.lemmas.Bool.Decides.{nat_tests}
 use Rattle.words.specs.declared.Expected.{Expected}
 use Rattle.words.specs.declared.Expected.TheVariants as Ex
+use Rattle.words.specs.Buffers.{put}
 use Rattle.words.specs.Words.{run, spaces, words_of, word_end, first_word, after_word, is_word}
 use Rattle.words.specs.Items.{Item, Found, slash, is_over, read_as, with_item, items_of, InBuffer}
 use Rattle.words.specs.Items.Found.{items, missing}
@@ -62,10 +63,10 @@ module _ {A : Type 0} (k : Item A) where
     items_more : (n : ℕ) (x : A) → read_as k w ≡ Ok x → items_of k (suc n) (w ∷ ws) ≡ with_item x (items_of k n ws)
     items_more n x r = grind (arith, nat_tests)
 
--- the first `count` elements of the buffer are the items of the words before `rest`
-pub record Reading {A : Type 0} (k : Item A) (line : List ℕ) (out : List A) (count : ℕ) (rest : List ℕ) : Type 0 where
-  pub found : items_of k (length out) (words_of line) ≡ onto (take count out) (items_of k (length out - count) (words_of rest))
-  pub room : count ≤ length out
+-- what is held are the items of the words before `rest`
+pub record Reading {A : Type 0} (k : Item A) (most : ℕ) (line : List ℕ) (held : List A) (rest : List ℕ) : Type 0 where
+  pub found : items_of k most (words_of line) ≡ onto held (items_of k (most - length held) (words_of rest))
+  pub room : length held ≤ most
   pub behind : rest ≡ drop (length line - length rest) line
 
 -- the end of a line goes on past its first word
@@ -81,75 +82,57 @@ ends_on line rest e =
     ap (drop (n + m)) e ∙ drop-drop (n + m) (length line - length rest) line
     ∙ ap (λ i. drop i line) (omega (arith, length-drop n rest, length-drop (n + m) rest))
 
-module _ {A : Type 0} (k : Item A) (line : List ℕ) (out : List A) where
-  pub reading_none : Reading k line out 0 line
+module _ {A : Type 0} (k : Item A) (most : ℕ) (line : List ℕ) where
+  pub reading_none : Reading k most line [] line
   reading_none = record {
-    found = let all : length out ≡ length out - 0 = omega arith in
-        sym (onto_none (items_of k (length out) (words_of line))) ∙ ap (λ n. onto [] (items_of k n (words_of line))) all;
+    found = let all : most ≡ most - 0 = omega arith in
+        sym (onto_none (items_of k most (words_of line))) ∙ ap (λ n. onto [] (items_of k n (words_of line))) all;
     room = omega arith;
     behind = let none : 0 ≡ length line - length line = omega arith in ap (λ n. drop n line) none;
   }
 
-module _ {A : Type 0} (k : Item A) (line : List ℕ) (out : List A) (count : ℕ) (rest : List ℕ) (so : Reading k line out count rest) where
-  pub reading_over : is_over (words_of rest) ≡ true → InBuffer k line out count rest
+module _ {A : Type 0} (k : Item A) (most : ℕ) (line : List ℕ) (held : List A) (rest : List ℕ) (so : Reading k most line held rest) where
+  pub reading_over : is_over (words_of rest) ≡ true → InBuffer k most line held rest
   reading_over e = record {
-    found = so.found ∙ ap (onto (take count out)) (items_over k (length out - count) (words_of rest) e) ∙ ap
-        (λ (l : List A). items l (words_of rest)) (append-nil (take count out));
+    found = so.found ∙ ap (onto held) (items_over k (most - length held) (words_of rest) e) ∙ ap
+        (λ (l : List A). items l (words_of rest)) (append-nil held);
     room = so.room;
     behind = so.behind;
   }
 
   module _ (on : is_over (words_of rest) ≡ false) where
-    here : items_of k (length out) (words_of line)
-        ≡ onto (take count out) (items_of k (length out - count) (first_word rest ∷ words_of (after_word rest)))
-    here = so.found ∙ ap (λ ws. onto (take count out) (items_of k (length out - count) ws)) (words_more rest (not_over rest on).0)
+    here : items_of k most (words_of line)
+        ≡ onto held (items_of k (most - length held) (first_word rest ∷ words_of (after_word rest)))
+    here = so.found ∙ ap (λ ws. onto held (items_of k (most - length held) ws)) (words_more rest (not_over rest on).0)
 
-    pub reading_wrong : (e : Expected) → read_as k (first_word rest) ≡ Err e → items_of k (length out) (words_of line) ≡ missing e
-    reading_wrong e r = here ∙ ap (onto (take count out))
-        (items_wrong k (first_word rest) (words_of (after_word rest)) (not_over rest on).1 (length out - count) e r)
+    pub reading_wrong : (e : Expected) → read_as k (first_word rest) ≡ Err e → items_of k most (words_of line) ≡ missing e
+    reading_wrong e r = here ∙ ap (onto held)
+        (items_wrong k (first_word rest) (words_of (after_word rest)) (not_over rest on).1 (most - length held) e r)
 
-    pub reading_full : (x : A) → read_as k (first_word rest) ≡ Ok x → length out ≤ count
-        → items_of k (length out) (words_of line) ≡ missing Ex.Fewer
+    pub reading_full : (x : A) → read_as k (first_word rest) ≡ Ok x → nat_le most (length held) ≡ true
+        → items_of k most (words_of line) ≡ missing Ex.Fewer
     reading_full x r full =
-        let none : length out - count ≡ 0 = omega arith in
+        let none : most - length held ≡ 0 = grind (arith, nat_tests) in
         here
-        ∙ ap (λ m. onto (take count out) (items_of k m (first_word rest ∷ words_of (after_word rest)))) none
-        ∙ ap (onto (take count out)) (items_full k (first_word rest) (words_of (after_word rest)) (not_over rest on).1 x r)
+        ∙ ap (λ m. onto held (items_of k m (first_word rest ∷ words_of (after_word rest)))) none
+        ∙ ap (onto held) (items_full k (first_word rest) (words_of (after_word rest)) (not_over rest on).1 x r)
 
-    pub reading_more : (x : A) → read_as k (first_word rest) ≡ Ok x → count < length out
-        → Reading k line (set out count x) (count + 1) (after_word rest)
+    pub reading_more : (x : A) → read_as k (first_word rest) ≡ Ok x → nat_le most (length held) ≡ false
+        → Reading k most line (put most held (x ∷ [])) (after_word rest)
+    unfolding put
     reading_more x r free =
-        let left : length out - count ≡ suc (length out - (count + 1)) = omega arith in
-        let same : length (set out count x) ≡ length out = length-set out count x in
-        let taken : take (count + 1) (set out count x) ≡ take count out ++ (x ∷ []) = ap (λ m. take m (set out count x)) (add-one count)
-        ∙ take-suc-set out count x free in
-        record {
+        let n = most - (length held + 1) in
+        let left : most - length held ≡ suc n = grind (arith, nat_tests) in
+        let taken : held ++ take (most - length held) (x ∷ []) ≡ held ++ (x ∷ []) =
+        ap (λ m. held ++ take m (x ∷ [])) left ∙ ap (λ (ys : List A). held ++ (x ∷ ys)) (take-nil n) in
+        let long : length (held ++ (x ∷ [])) ≡ length held + 1 = length-append held (x ∷ []) in
+        rw taken (record {
           found =
-              ap (λ m. items_of k m (words_of line)) same
-              ∙ here
-              ∙ ap (λ m. onto (take count out) (items_of k m (first_word rest ∷ words_of (after_word rest)))) left
-              ∙ ap (onto (take count out))
-              (items_more k (first_word rest) (words_of (after_word rest)) (not_over rest on).1 (length out - (count + 1)) x r)
-              ∙ onto_more (take count out) x (items_of k (length out - (count + 1)) (words_of (after_word rest)))
-              ∙ ap (λ (xs : List A). onto xs (items_of k (length out - (count + 1)) (words_of (after_word rest)))) (sym taken)
-              ∙ ap (λ m. onto (take (count + 1) (set out count x)) (items_of k (m - (count + 1)) (words_of (after_word rest)))) (sym same);
-          room = omega (arith, same);
+              here
+              ∙ ap (λ m. onto held (items_of k m (first_word rest ∷ words_of (after_word rest)))) left
+              ∙ ap (onto held) (items_more k (first_word rest) (words_of (after_word rest)) (not_over rest on).1 n x r)
+              ∙ onto_more held x (items_of k n (words_of (after_word rest)))
+              ∙ ap (λ m. onto (held ++ (x ∷ [])) (items_of k (most - m) (words_of (after_word rest)))) (sym long);
+          room = grind (arith, nat_tests, long);
           behind = ends_on line rest so.behind;
-        }
-
--- where a list of items ends, the line ends or more words follow
-module _ {A : Type 0} (f : Found A) (xs : List A) (more : List ℕ) (is : f ≡ items xs (words_of more)) where
-  pub found_end : length (first_word more) ≡ 0 → f ≡ items xs []
-  found_end e = is ∙ ap (items xs) (words_none more e)
-
-  pub found_more : (length (first_word more) ≡ 0 → ⊥) → f ≡ items xs (first_word more ∷ words_of (after_word more))
-  found_more e = is ∙ ap (items xs) (words_more more e)
-
--- what was read into a buffer of n elements
-module _ {A : Type 0} (k : Item A) (line : List ℕ) (out : List A) (n : ℕ) (long : length out ≡ n) where
-  pub read_found : (count : ℕ) (rest : List ℕ) → InBuffer k line out count rest → items_of k n (words_of line) ≡ items (take count out)
-      (words_of rest)
-  read_found count rest i = ap (λ m. items_of k m (words_of line)) (sym long) ∙ i.found
-
-  pub read_missing : (e : Expected) → items_of k (length out) (words_of line) ≡ missing e → items_of k n (words_of line) ≡ missing e
-  read_missing e i = ap (λ m. items_of k m (words_of line)) (sym long) ∙ i
+        })

@@ -4,4 +4,5 @@ pub mod RunLaws
 pub mod SplitLaws
 pub mod ExpectationLaws
 pub mod NumberLaws
+pub mod BufferLaws
 pub mod ItemLaws

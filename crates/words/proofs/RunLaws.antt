@@ -3,35 +3,17 @@
 use mathlib.Core.Path.{◌≡◌, refl, sym, ap, ◌∙◌}
 use mathlib.Core.Bool.{Bool, true, false, not, cond}
 use mathlib.Core.List.{List, [], ◌∷◌}
-use Prim.Native.Nat.{ℕ, suc, ◌+◌, ◌≤◌, ◌<◌}
-use native.Mathlib.Numerals.{add-one, one-add}
+use Prim.Native.Nat.{ℕ, suc, ◌+◌, ◌≤◌}
+use native.Mathlib.Numerals.{one-add}
 use native.Mathlib.Omega.{arith}
 use lib.Dec.{eqb}
-use lib.ListN.{length, drop, get_or, drop_of_length-le}
-use lib.Seq.{drop-cons}
+use lib.ListN.{length}
 use Rattle.std.specs.Prelude.{Option, unwrap_or}
 use Rattle.std.specs.List.{position, position_or_len}
 use Rattle.std.proofs.lemmas.List.Recursion.{is_position_or_len}
 use Rattle.std.proofs.lemmas.Bool.Decides.{nat_tests}
 use Rattle.std.proofs.lemmas.List.Sums.{prefix_len-le-length}
 use Rattle.words.specs.Words.{run, InFront}
-
--- an element is counted where it is the byte, or, with `same` false, is not
-pub run_one : (same : Bool) (b x : ℕ) (xs : List ℕ) → eqb x b ≡ same → run same b (x ∷ xs) ≡ suc (run same b xs)
-run_one true b x xs e = rw e
-run_one false b x xs e = rw e
-
-pub run_stop : (same : Bool) (b x : ℕ) (xs : List ℕ) → (eqb x b ≡ same → ⊥) → run same b (x ∷ xs) ≡ 0
-run_stop true b x xs n = other (eqb x b) n
-  where
-    other : (t : Bool) → (t ≡ true → ⊥) → cond t (suc (run true b xs)) 0 ≡ 0
-    other true n = absurd (n refl)
-    other false n = refl
-run_stop false b x xs n = other (eqb x b) n
-  where
-    other : (t : Bool) → (t ≡ false → ⊥) → cond t 0 (suc (run false b xs)) ≡ 0
-    other true n = refl
-    other false n = absurd (n refl)
 
 within_cond : (t : Bool) (n k : ℕ) → n ≤ k → (cond t (suc n) 0 ≤ suc k) × (cond t 0 (suc n) ≤ suc k)
 within_cond true n k h = (omega arith, omega arith)
@@ -69,27 +51,3 @@ module _ (b : ℕ) (xs : List ℕ) (found : Option ℕ) (r : ℕ) where
   until_is e q =
       let is = q ∙ place (λ x. eqb x b) xs found e ∙ sym (run_is b xs).1 in
       record { is = is; within = omega (arith, is, run_within false b xs) }
-
-run_nil : (same : Bool) (b : ℕ) → run same b [] ≡ 0
-run_nil true b = refl
-run_nil false b = refl
-
--- the count so far, at i
-module _ (same : Bool) (b : ℕ) (xs : List ℕ) (i : ℕ) where
-  pub run_more : i < length xs → eqb (get_or xs i 0) b ≡ same → run same b xs ≡ i + run same b (drop i xs)
-      → run same b xs ≡ i + 1 + run same b (drop (i + 1) xs)
-  run_more h e p =
-      let q = p ∙ ap (λ (l : List ℕ). i + run same b l) (drop-cons xs i 0 h) ∙ ap (λ n. i + n)
-      (run_one same b (get_or xs i 0) (drop (suc i) xs) e) in
-      rw add-one (omega (arith, q))
-
-  pub run_stops : i < length xs → (eqb (get_or xs i 0) b ≡ same → ⊥) → run same b xs ≡ i + run same b (drop i xs) → InFront same b xs i
-  run_stops h e p =
-      let q = p ∙ ap (λ (l : List ℕ). i + run same b l) (drop-cons xs i 0 h) ∙ ap (λ n. i + n)
-      (run_stop same b (get_or xs i 0) (drop (suc i) xs) e) in
-      record { is = omega (arith, q); within = omega arith }
-
-  pub run_ends : i ≤ length xs → length xs ≤ i → run same b xs ≡ i + run same b (drop i xs) → InFront same b xs i
-  run_ends h k p =
-      let q = p ∙ ap (λ (l : List ℕ). i + run same b l) (drop_of_length-le xs k) ∙ ap (λ n. i + n) (run_nil same b) in
-      record { is = omega (arith, q); within = h }

@@ -1,6 +1,6 @@
 -- Lists of bytes and of numbers in a line, up to a `/` or the line's end.
 -- Assumes nothing.
-use Rattle.std.specs.Prelude.{◌≡◌, Bool, true, cond, List, [], ◌∷◌, ℕ, zero, suc, ◌-◌, ◌≤◌, ltb, length, take, drop, ℤ}
+use Rattle.std.specs.Prelude.{◌≡◌, Bool, true, cond, List, [], ◌∷◌, ℕ, zero, suc, ◌-◌, ◌≤◌, ltb, length, drop, ℤ}
 use Rattle.std.specs.Prelude.{Result, Ok, Err}
 use Rattle.std.specs.Int.{w16}
 use Rattle.std.proofs.Common.{to_z}
@@ -58,12 +58,13 @@ items_of k (suc room) (w ∷ ws) =
     cond (is_word w slash) (items [] (w ∷ ws))
     (cond (ltb k.most (k.number w)) (missing k.expected) (with_item (k.value (k.number w)) (items_of k room ws)))
 
--- the first `count` elements of a buffer are the items of a line, and `rest` is the end of the line that follows them
-pub record InBuffer {A : Type 0} (k : Item A) (line : List ℕ) (out : List A) (count : ℕ) (rest : List ℕ) : Type 0 where
-  pub found : items_of k (length out) (words_of line) ≡ items (take count out) (words_of rest)
-  pub room : count ≤ length out
+-- what is held are the items of a line, of which there may be `most`, and `rest` is the end of the line that follows them
+pub record InBuffer {A : Type 0} (k : Item A) (most : ℕ) (line : List ℕ) (held : List A) (rest : List ℕ) : Type 0 where
+  pub found : items_of k most (words_of line) ≡ items held (words_of rest)
+  pub room : length held ≤ most
   pub behind : rest ≡ drop (length line - length rest) line
 
-abbrev pub ReadInto : {A : Type 0} → Item A → List ℕ → List A → Result Items Expected → Type 0
-ReadInto k line out (Ok found) = InBuffer k line out found.count found.rest.now
-ReadInto k line out (Err e) = items_of k (length out) (words_of line) ≡ missing e
+-- what reading a list promises, where a buffer b holds the items `held b`
+abbrev pub ReadInto : {A B : Type 0} → Item A → ℕ → (B → List A) → List ℕ → Result (Items B) Expected → Type 0
+ReadInto k most held line (Ok found) = InBuffer k most line (held found.items) found.rest.now
+ReadInto k most held line (Err e) = items_of k most (words_of line) ≡ missing e

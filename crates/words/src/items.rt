@@ -4,13 +4,14 @@ ghost use Rattle.words.specs.Words.{words_of};
 ghost use Rattle.words.specs.Items.{Item, ReadInto, byte_item, number_item, read_as, is_over};
 
 use crate::Expected;
+use crate::buffers::Buffer;
 use crate::numbers::{hexadecimal, signed};
 use crate::split::{after_word, first_word};
 
-// What reading a list finds: how many items, and what is left of the line.
-#[derive(Clone, Copy, Debug, PartialEq, Eq)]
-pub struct Items<'a> {
-    pub count: usize,
+// What reading a list finds: the items, and what is left of the line.
+#[derive(Drop)]
+pub struct Items<'a, B> {
+    pub items: B,
     pub rest: &'a [u8],
 }
 
@@ -49,21 +50,21 @@ pub fn is_over(line: &[u8]) -> bool
     word.is_empty() || word == b"/".as_slice()
 }
 
-pub fn read_items<'a, T: ListItem>(line: &'a [u8], out: &mut [T]) -> Result<Items<'a>, Expected>
-    ensures { ReadInto T.kind line.now out.new result }
+#[tactic(auto, using(crate::proofs::ItemLaws::not_over, crate::proofs::SplitLaws::after_shorter))]
+pub fn read_items<'a, T: ListItem, B: Buffer<T>>(line: &'a [u8]) -> Result<Items<'a, B>, Expected>
+    ensures { ReadInto T.kind B.most B.held line.now result }
 {
-    let mut count = 0;
+    let mut items = B::empty();
     let mut rest = line;
     while !is_over(rest) {
         let item = T::read(first_word(rest))?;
-        if out.len() <= count {
+        if items.is_full() {
             return Err(Expected::Fewer);
         }
-        out[count] = item;
-        count += 1;
+        items.put(item);
         rest = after_word(rest);
     }
-    Ok(Items { count, rest })
+    Ok(Items { items, rest })
 }
 
 // The first n, or all where there are fewer.

@@ -5,6 +5,8 @@
 pub mod split;
 // Numbers as digits spell them.
 pub mod numbers;
+// Buffers that hold items up to a number of them.
+pub mod buffers;
 // Lists of bytes and of numbers in a line.
 pub mod items;
 // A line as an expected answer.

@@ -16,22 +16,6 @@ pub fn until(line: &[u8], byte: u8) -> usize
     line.iter().position(|&b| b == byte).unwrap_or(line.len())
 }
 
-// The first n bytes.
-pub fn front(line: &[u8], n: usize) -> &[u8]
-    requires { n ≤ length line.now }
-    ensures { result.now ≡ take n line.now }
-{
-    &line[..n]
-}
-
-// All but the first n bytes.
-pub fn back(line: &[u8], n: usize) -> &[u8]
-    requires { n ≤ length line.now }
-    ensures { result.now ≡ drop n line.now }
-{
-    &line[n..]
-}
-
 // Where the first word ends.
 #[tactic(auto, unfolding(crate::specs::Words::word_end, crate::specs::Words::first_word))]
 pub fn word_end(line: &[u8]) -> usize

@@ -4,4 +4,4 @@ use Rattle.texts.proofs.TextLaws.{Placing}
 use Rattle.texts.proofs.text.put_places.Given as goal
 
 abbrev pub invariant-loop-n : goal.invariant-loop-n
-invariant-loop-n l = Placing l.bits l.initial.out l.at l.n l.rest l.out l.next
+invariant-loop-n g l = Placing g.B.Buffer.most l.bits (g.B.Buffer.held l.initial.out) l.n l.rest (g.B.Buffer.held l.out)
