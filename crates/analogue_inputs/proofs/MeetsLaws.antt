@@ -68,9 +68,9 @@ meets_parts m x =
 
 -- and by the bits of x and the last sample, which the code compares
 pub meets_coded : (m : AnalogueInput) (x : ℤ) → SFits w16 x → SFits w16 m.last
-    → (not (eqb (of_z w16 x) (of_z w16 m.last)) && meets_limit x m) || meets_delta x m ≡ meets x m
+    → meets x m ≡ (not (eqb (of_z w16 x) (of_z w16 m.last)) && meets_limit x m) || meets_delta x m
 meets_coded m x fx fl =
-    ap (λ (e : Bool). (not e && meets_limit x m) || meets_delta x m) (equal_bits w16 x m.last fx fl) ∙ sym (meets_parts m x)
+    meets_parts m x ∙ ap (λ (e : Bool). (not e && meets_limit x m) || meets_delta x m) (sym (equal_bits w16 x m.last fx fl))
 
 -- ---- a sample that is still
 

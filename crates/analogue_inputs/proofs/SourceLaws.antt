@@ -6,6 +6,7 @@ use mathlib.Core.List.{List}
 use Prim.Native.Nat.{ℕ, ◌+◌, ◌*◌, ◌/◌, ◌%◌, ◌<◌}
 use native.Mathlib.Omega.{arith}
 use lib.Bits.{bit_or}
+use Rattle.std.proofs.lemmas.Nat.{or_of_16}
 use lib.ListN.{length, get_or}
 use lib.IntN.{ℤ, pos}
 use Rattle.profile.specs.declared.AnalogueInput.{AnalogueInput}
@@ -39,14 +40,16 @@ module _ (octets octets' : List ℕ) (limits : List ℤ) (deltas : List ℕ) (va
 
   module _ (on : Bool) (xs : List ℤ) (events : ℕ)
       (taken : NumbersTaken on xs (input_at octets limits deltas values) events (input_at octets limits deltas values') values values')
-      (sources : ℕ) (read : sources ≡ sources_of octets)
-      (stored : SourcesStored (bit_or events sources) octets octets') where
+      (long : length octets ≡ 22) (joined : octets' ≡ sources_set octets (bit_or events (sources_of octets))) where
+    stored : SourcesStored (bit_or events (sources_of octets)) octets octets'
+    stored = rw joined (sources_stored octets (bit_or events (sources_of octets)) long)
+
     abbrev event : ℕ → Bool
     event = met on xs (input_at octets limits deltas values)
 
     source_is : (n : ℕ) → n < 16 → bit_at (sources_of octets') n ≡ event n || bit_at (sources_of octets) n
     source_is n h =
-        ap (λ (s : ℕ). bit_at s n) (stored.are ∙ ap (bit_or events) read) ∙ bit_or_lem events (sources_of octets) n
+        ap (λ (s : ℕ). bit_at s n) stored.are ∙ bit_or_lem events (sources_of octets) n
         ∙ ap (λ (b : Bool). b || bit_at (sources_of octets) n)
         (ap (λ (s : ℕ). bit_at s n) taken.events_are ∙ gather_bit 16 event n h)
 
@@ -95,3 +98,6 @@ module _ (octets octets' : List ℕ) (limits : List ℤ) (deltas : List ℕ) (va
               source = (ap (λ (s : ℕ). bit_at s n) stored.are ∙ bit_zero n) t;
             };
       }
+
+-- what the check is told at `sample_all`
+pub ruleset for_sample = (events_small, or_of_16, inputs_sampled)

@@ -32,6 +32,7 @@ fn meets_limit(channel: AnalogueInput, x: i16) -> bool
 }
 
 // Whether a sample is farther from the reference than a delta that 6421 selects.
+#[tactic(auto, using(crate::proofs::MeetsLaws::fall_is, crate::proofs::MeetsLaws::rise_is))]
 fn meets_delta(channel: AnalogueInput, x: i16) -> bool
     ensures { result ≡ meets_delta x channel }
 {
@@ -45,6 +46,7 @@ fn meets_delta(channel: AnalogueInput, x: i16) -> bool
 }
 
 // Whether a sample meets a condition that 6421 selects.
+#[tactic(auto, using(std::proofs::lemmas::Int::ints, crate::proofs::MeetsLaws::meets_coded))]
 pub fn meets_selected(channel: AnalogueInput, x: i16) -> bool
     ensures { result ≡ meets x channel }
 {
@@ -59,6 +61,7 @@ fn is_still(channel: AnalogueInput, x: i16) -> bool
 }
 
 // Events are on while the node is operational and 6423 is 1.
+#[tactic(auto, using(std::proofs::lemmas::Int::ints), unfolding(profile::specs::AnalogueInput::sample_channel))]
 pub fn sampled(channel: AnalogueInput, x: i16, on: bool) -> SampledChannel
     ensures { Sampled on x channel result.event result.channel }
 {
@@ -81,11 +84,9 @@ fn take_numbers(
     limits: &Limits,
     deltas: &Deltas,
     values: &mut Values,
-    xs: &[i16],
+    xs: &[i16; 16],
     on: bool,
 ) -> u32
-    requires values_len { length values.old ≡ 56 }
-    requires xs_len { length xs.now ≡ 16 }
     ensures { NumbersTaken on xs.now
         (input_at octets.now limits.now deltas.now values.old) result
         (input_at octets.now limits.now deltas.now values.new)
@@ -95,9 +96,9 @@ fn take_numbers(
     // Downward: fewer instructions for each channel that is still.
     for i in (0..16).rev() {
         let x = xs[i];
-        let seen = input_at(octets, limits, deltas, values, i);
-        if !is_still(seen, x) {
-            let result = sampled(seen, x, on);
+        if !is_still(input_at(octets, limits, deltas, values, i), x) {
+            // Read again, which is fewer instructions than a channel that is kept.
+            let result = sampled(input_at(octets, limits, deltas, values, i), x, on);
             set_sample(values, i, result.channel);
             events |= u32::from(result.event) << i;
         }
@@ -106,16 +107,15 @@ fn take_numbers(
 }
 
 // The same, and the source bit of each event becomes 1.
+#[tactic(auto, using(crate::proofs::SourceLaws::for_sample))]
 pub fn sample_all(
     octets: &mut Octets,
     limits: &Limits,
     deltas: &Deltas,
     values: &mut Values,
-    xs: &[i16],
+    xs: &[i16; 16],
     on: bool,
 ) -> u16
-    requires octets_len { (length octets.old ≡ 22) × (length values.old ≡ 56) }
-    requires xs_len { length xs.now ≡ 16 }
     ensures { InputsSampled on xs.now result
         (input_at octets.old limits.now deltas.now values.old)
         (input_at octets.new limits.now deltas.now values.new)
@@ -136,7 +136,6 @@ pub fn read_sources(octets: &Octets) -> u32
 
 // Every source bit becomes 0.
 pub fn clear_sources(octets: &mut Octets)
-    requires { length octets.old ≡ 22 }
     ensures { SourcesStored 0 octets.old octets.new }
 {
     set_sources(octets, 0);
@@ -203,8 +202,7 @@ pub fn write_at(
     index: u16,
     value: u32,
 )
-    requires octets_len { (length octets.old ≡ 22) × (length limits.old ≡ 32) × (length deltas.old ≡ 120) }
-    requires n_bound { (n < 16) × (value < 256 ^ input_size index) }
+    requires { (n < 16) × (value < 256 ^ input_size index) }
     ensures { InputStored index n value
         (input_at octets.old limits.old deltas.old values.now)
         (input_at octets.new limits.new deltas.new values.now)

@@ -2,3 +2,4 @@
 -- Assumes nothing.
 pub mod StoreLaws
 pub mod WriteLaws
+pub mod DriveLaws

@@ -7,7 +7,7 @@ ghost use Rattle.analogue_outputs.specs.Writable.{Writable};
 ghost use Rattle.analogue_outputs.specs.Promises.{OutputStored, OutputsMoved, Driven};
 ghost use Rattle.channels.specs.View.{output_at, driven_of};
 
-use channels::fields::{Flags, Values, driven_at, output_at, set_driven, set_output};
+use channels::fields::{DRIVEN, Flags, Values, output_at, set_driven, set_output};
 use profile::AnalogueOutput;
 
 // When fault begins, the output drives the error value if error mode is 1; when fault ends, it follows the kept value.
@@ -31,7 +31,6 @@ pub fn moved(output: AnalogueOutput, before: bool, after: bool) -> AnalogueOutpu
 // Every output moves where fault begins or ends.
 #[tactic(auto, unfolding(profile::specs::AnalogueOutput::move_analogue_output))]
 pub fn move_all(flags: &Flags, values: &mut Values, before: bool, after: bool)
-    requires { length values.old ≡ 56 }
     ensures { OutputsMoved before after
         (output_at flags.now values.old) (output_at flags.now values.new)
         values.old values.new }
@@ -91,8 +90,7 @@ pub fn write_at(
     value: u32,
     fault: bool,
 )
-    requires flags_len { (length flags.old ≡ 12) × (length values.old ≡ 56) }
-    requires n_bound { (n < 8) × Writable index value }
+    requires { (n < 8) × Writable index value }
     ensures { OutputStored fault index n value
         (output_at flags.old values.old) (output_at flags.new values.new)
         flags.old flags.new values.old values.new }
@@ -103,11 +101,9 @@ pub fn write_at(
 }
 
 // The driven numbers.
-pub fn drive(values: &Values, out: &mut [i16])
-    requires { length out.old ≡ 8 }
+#[tactic(auto, using(crate::proofs::DriveLaws::all_copied))]
+pub fn drive(values: &Values, out: &mut [i16; 8])
     ensures { Driven (driven_of values.now) out.new }
 {
-    for i in 0..8 {
-        out[i] = driven_at(values, i);
-    }
+    out.copy_from_slice(&values[DRIVEN..]);
 }

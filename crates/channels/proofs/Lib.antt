@@ -1,6 +1,5 @@
 -- Laws that the proofs of this crate cite, and those above it may.
 -- Assumes nothing.
 pub mod SignedLaws
-pub mod ByteLaws
 pub mod Sweeps
 pub mod StoreLaws

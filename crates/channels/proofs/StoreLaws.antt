@@ -25,7 +25,7 @@ module _ {A : Type 0} {a b : ℕ} {d : A} {xs : List A} where
         high = λ j h. get_or-set_other ys k j v d (λ (q : j ≡ k). omega arith) ∙ o.high j h;
       }
 
--- ---- two, three or four elements stored
+-- ---- two elements stored
 
 module _ {A : Type 0} (xs : List A) (p q : ℕ) (a b d : A) where
   pub two_first : (p ≡ q → ⊥) → p < length xs → get_or (set (set xs p a) q b) p d ≡ a
@@ -36,30 +36,6 @@ module _ {A : Type 0} (xs : List A) (p q : ℕ) (a b d : A) where
 
   pub two_other : (k : ℕ) → (k ≡ p → ⊥) → (k ≡ q → ⊥) → get_or (set (set xs p a) q b) k d ≡ get_or xs k d
   two_other k np nq = get_or-set_other (set xs p a) q k b d nq ∙ get_or-set_other xs p k a d np
-
-module _ {A : Type 0} (xs : List A) (p q r : ℕ) (a b c d : A) where
-  abbrev stored : List A
-  stored = set (set (set xs p a) q b) r c
-
-  pub three_first : (p ≡ q → ⊥) → (p ≡ r → ⊥) → p < length xs → get_or stored p d ≡ a
-  three_first nq nr h = get_or-set_other (set (set xs p a) q b) r p c d nr ∙ two_first xs p q a b d nq h
-
-  pub three_second : (q ≡ r → ⊥) → q < length xs → get_or stored q d ≡ b
-  three_second nr h = get_or-set_other (set (set xs p a) q b) r q c d nr ∙ two_second xs p q a b d h
-
-  pub three_third : r < length xs → get_or stored r d ≡ c
-  three_third h = get_or-set_same (set (set xs p a) q b) r c d (rw (length-set (set xs p a) q b, length-set xs p a) h)
-
-  pub three_other : (k : ℕ) → (k ≡ p → ⊥) → (k ≡ q → ⊥) → (k ≡ r → ⊥) → get_or stored k d ≡ get_or xs k d
-  three_other k np nq nr = get_or-set_other (set (set xs p a) q b) r k c d nr ∙ two_other xs p q a b d k np nq
-
-  -- and a fourth
-  pub fourth_other : (s : ℕ) (v : A) (k : ℕ) → (k ≡ s → ⊥) → get_or (set stored s v) k d ≡ get_or stored k d
-  fourth_other s v k ne = get_or-set_other stored s k v d ne
-
-  pub fourth_same : (s : ℕ) (v : A) → s < length xs → get_or (set stored s v) s d ≡ v
-  fourth_same s v h =
-      get_or-set_same stored s v d (rw (length-set (set (set xs p a) q b) r c, length-set (set xs p a) q b, length-set xs p a) h)
 
 -- places of one column differ where the channels do
 pub elsewhere : (b i n : ℕ) → (i ≡ n → ⊥) → b + i ≡ b + n → ⊥

@@ -1,7 +1,7 @@
 // Where each field of a channel stands in the lent arrays: element n of its column for channel n, from 0.
-ghost use Rattle.std.specs.Prelude.{◌≡◌, ◌+◌, ◌≤◌, ◌<◌, length, get_or, set, pos};
+ghost use Rattle.std.specs.Prelude.{◌≡◌, ◌+◌, ◌≤◌, ◌<◌, get_or, set, pos};
 ghost use Rattle.profile.specs.Bits.{bit_at};
-ghost use Rattle.channels.specs.View.{input_at, output_at, driven_of, sources_of, limits_set, deltas_set, selection_set};
+ghost use Rattle.channels.specs.View.{input_at, output_at, sources_of, limits_set, deltas_set, selection_set};
 ghost use Rattle.channels.specs.View.{samples_set, sources_set, output_set, mode_set, modes_set, Zeroed};
 
 use profile::{AnalogueInput, AnalogueOutput};
@@ -43,7 +43,7 @@ const ERROR: usize = 32;
 
 const KEPT: usize = 40;
 
-const DRIVEN: usize = 48;
+pub const DRIVEN: usize = 48;
 
 // In octets, after the node's.
 const SELECTION: usize = 3;
@@ -119,14 +119,14 @@ pub fn last_at(values: &Values, n: usize) -> i16
 
 // The elements from one on and before another become 0.
 pub fn zero_deltas(deltas: &mut Deltas, from: usize, to: usize)
-    requires from_le_to { (from ≤ to) × (to ≤ 120) }
-    requires deltas_len { length deltas.old ≡ 120 }
+    requires { (from ≤ to) × (to ≤ 120) }
     ensures { Zeroed from to deltas.old deltas.new }
 {
     deltas[from..to].fill(0);
 }
 
 // The source bit of one channel.
+#[tactic(auto, unfolding(profile::specs::Bits::bit_at))]
 fn source_at(octets: &Octets, n: usize) -> bool
     requires { n < 16 }
     ensures { result ≡ bit_at (sources_of octets.now) n }
@@ -170,13 +170,6 @@ pub fn set_output(flags: &mut Flags, values: &mut Values, n: usize, new: Analogu
     values[ERROR + n] = new.error;
     values[KEPT + n] = new.kept;
     values[DRIVEN + n] = new.driven;
-}
-
-pub fn driven_at(values: &Values, n: usize) -> i16
-    requires { n < 8 }
-    ensures { result ≡ driven_of values.now n }
-{
-    values[DRIVEN + n]
 }
 
 pub fn set_driven(values: &mut Values, n: usize, driven: i16)

@@ -39,15 +39,15 @@ impl Device {
     }
 
     // The node is operational.
-    pub fn is_active(self) -> bool
-        ensures { result ≡ operational (machines_of self node_alone 0).node }
+    pub fn is_active(&self) -> bool
+        ensures { result ≡ operational (machines_of self.now node_alone 0).node }
     {
         is_active(&self.store)
     }
 
     // A received frame of that many bytes is as long as its mapping.
-    pub fn is_long(self, message: Message, size: usize) -> bool
-        ensures { result ≡ leb (mapped.total (mapped.received message) (in_force (machines_of self) (mapped.received message))) size }
+    pub fn is_long(&self, message: Message, size: usize) -> bool
+        ensures { result ≡ leb (mapped.total (mapped.received message) (in_force (machines_of self.now) (mapped.received message))) size }
     {
         is_long(&self.store, message, size)
     }

@@ -24,8 +24,8 @@ impl Device {
     }
 
     // The node is stopped.
-    pub fn is_stopped(self) -> bool
-        ensures { result ≡ stopped (machines_of self node_alone 0).node }
+    pub fn is_stopped(&self) -> bool
+        ensures { result ≡ stopped (machines_of self.now node_alone 0).node }
     {
         is_stopped(self.store.node())
     }

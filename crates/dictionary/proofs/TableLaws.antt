@@ -5,7 +5,6 @@ use mathlib.Core.Bool.{Bool, true, false, ◌&&◌}
 use mathlib.Core.List.{List, [], ◌∷◌}
 use Prim.Native.Nat.{ℕ, zero, suc, ◌+◌, ◌*◌, ◌/◌, ◌%◌, ◌^◌, ◌<◌, suc-le-suc}
 use native.Mathlib.Nat.{add-zero, zero-add, add-suc, suc-add, le_of_suc-le-suc, not-suc-le-zero, zero-lt-suc, mod-lt}
-use native.Mathlib.Omega.{arith}
 use lib.Dec.{T, eqb, ltb, eqb→eq, ltb→lt}
 use lib.ListN.{length, get_or, take, drop}
 use borrow.Author.Tests.{ne_eqb, eqb-true, eqb-false}
@@ -103,16 +102,7 @@ small : (k : ℕ) → k < 128 → T (ltb (hint k) 44)
 small k h = subst (λ (n : ℕ). T (ltb (hint n) 44)) (list_from_at 128 0 (λ n. n) k 0 h ∙ zero-add k)
     (each (λ i x. ltb (hint x) 44) (list_from 128 0 (λ n. n)) tt k h)
 
--- whatever byte of whatever word is read
-pub byte_small : (n j : ℕ) → n < 16 → j < 8 → place_word n / 2 ^ (8 * j) % 256 < 44
-byte_small n j hn hj =
-    let word : (8 * n + j) / 8 ≡ n = omega arith in
-    let byte : (8 * n + j) % 8 ≡ j = omega arith in
-    subst (λ (m : ℕ). place_word m / 2 ^ (8 * j) % 256 < 44) word
-    (subst (λ (b : ℕ). place_word ((8 * n + j) / 8) / 2 ^ (8 * b) % 256 < 44) byte
-    (ltb→lt (hint (8 * n + j)) 44 (small (8 * n + j) (omega arith))))
-
-hint_small : (x : ℕ) → hint (key_of x) < 44
+pub hint_small : (x : ℕ) → hint (key_of x) < 44
 hint_small x = ltb→lt (hint (key_of x)) 44 (small (key_of x) (mod-lt (5 * x + x / 16) (zero-lt-suc 127)))
 
 pub hint_right : (p : ℕ) → p < 44 → hint (key_of (get_or table p 0)) ≡ p

@@ -72,9 +72,9 @@ fn silent_end(stopped: bool) -> &'static [u8]
 fn end_replied<B: Buffer<u8>>(out: &mut B, reply: &[u8])
     ensures { B.held out.new ≡ put B.most (B.held out.old) (replied_end reply.now) }
 {
-    if reply.len() != 8 {
+    let Some(reply) = reply.as_array::<8>() else {
         return out.put(b'\n');
-    }
+    };
     if aborts(reply[0]) {
         return end_abort(out, code_in(reply));
     }

@@ -202,3 +202,6 @@ pub cleared_counts : (words : List ℕ) {out : List ℕ} → Lined out (cleared 
 unfolding cleared
 cleared_counts words o =
     record { count = o.count; lines = λ a i ha hi. o.lines a i ha hi ∙ none_counted words a i (leb 12 a) (ltb a 12) refl refl ha }
+
+-- what the check is told at `reached`
+pub ruleset for_reached = (comparing_none, comparing_more, comparing_all)

@@ -6,7 +6,7 @@ use mathlib.Core.List.{List}
 use Prim.Native.Nat.{ℕ, ◌<◌}
 use native.Mathlib.Omega.{arith}
 use lib.Dec.{eqb}
-use lib.Bits.{bit_xor}
+use lib.Bits.{bit_xor, xor_lt}
 use borrow.Author.Tests.{eqb-true}
 use Rattle.profile.specs.Bits.{bit_at, flip}
 use Rattle.profile.specs.Bytes.{bytes}
@@ -20,7 +20,7 @@ use Rattle.lines.specs.View.{input_at, output_at}
 use Rattle.windows.specs.Promises.{Lined, written, masked, row_set, RowOf, Joins, Picks}
 use Rattle.lines.specs.Promises.{Written, Moved, Driven, driven_at}
 use Rattle.profile.proofs.BoolLaws.{both}
-use Rattle.windows.proofs.WindowLaws.{window_bit}
+use Rattle.windows.proofs.WindowLaws.{window_bit, window_small}
 use Rattle.windows.proofs.RowLaws.{every, none, every_line, no_line}
 use Rattle.lines.proofs.ColumnLaws.{input_of_lem, output_of_lem}
 
@@ -142,6 +142,11 @@ module _ {fault : Bool} {words mid : List ℕ} {w s v : ℕ} where
             ∙ ap (cond (eqb a 11 && inside w s i) (bit_at (bit_xor x v) (bit_of w s i))) (m.lines a i ha h)
             ∙ cond_when (eqb a 11 && inside w s i) (bit_at (bit_xor x v) (bit_of w s i)) (flip (line_at words 6 i) (bit_at v (bit_of w s i))) _
             (λ q. follows i (both (eqb a 11) (inside w s i) q).1)
+
+-- what the check is told at `write_output_lines` and at `write_output_polarity`
+pub ruleset for_lines = (kept_in_fault, kept_outside, window_small, xor_lt)
+
+pub ruleset for_polarity = (inverted_in_fault, inverted_outside, window_small, xor_lt)
 
 -- ---- fault that begins or ends
 

@@ -14,6 +14,7 @@ const END: usize = 20;
 
 // The lines whose count, one higher, reaches or passes the filter length, which is `samples`: the counts are compared with the length
 // less 1, from the lowest bit up.
+#[tactic(auto, using(crate::proofs::CountLaws::for_reached))]
 pub(crate) fn reached(words: &Words, samples: u8) -> Row
     ensures { Reached words.now samples result }
 {

@@ -45,6 +45,7 @@ pub fn fresh(words: &mut Words)
 }
 
 // Inputs read under their polarity, every other row as it stands.
+#[tactic(auto, using(crate::proofs::AccessLaws::read_input, crate::proofs::AccessLaws::read_plain))]
 pub fn read(words: &Words, row: usize, width: usize, sub: usize) -> u32
     requires covers { Covers row width sub }
     requires row_bound { row < 11 }
@@ -57,6 +58,7 @@ pub fn read(words: &Words, row: usize, width: usize, sub: usize) -> u32
 }
 
 // Outside fault the driven lines follow what is written to the outputs or their polarity.
+#[tactic(auto, using(crate::proofs::AccessLaws::wrote_plain))]
 pub fn write(words: &mut Words, row: usize, width: usize, sub: usize, value: u32, fault: bool)
     requires covers { Covers row width sub }
     requires le_row { 1 ≤ row }
@@ -72,6 +74,7 @@ pub fn write(words: &mut Words, row: usize, width: usize, sub: usize, value: u32
 }
 
 // Only outputs whose filter mask is 1 take the value.
+#[tactic(auto, using(crate::proofs::OutputLaws::for_lines))]
 fn write_output_lines(words: &mut Words, width: usize, sub: usize, value: u32, fault: bool)
     requires covers { Covers 6 width sub }
     requires value_bound { value < 2 ^ width }
@@ -86,6 +89,7 @@ fn write_output_lines(words: &mut Words, width: usize, sub: usize, value: u32, f
 }
 
 // Outputs that are driven invert with their polarity.
+#[tactic(auto, using(crate::proofs::OutputLaws::for_polarity))]
 fn write_output_polarity(words: &mut Words, width: usize, sub: usize, value: u32, fault: bool)
     requires covers { Covers 7 width sub }
     requires value_bound { value < 2 ^ width }
@@ -135,6 +139,7 @@ fn settle(words: &mut Words, new: Row, samples: u8)
 }
 
 // Fault begins: the error value, polarity not applied, is driven where error mode is 1. Fault ends: all outputs are driven again.
+#[tactic(auto, using(crate::proofs::OutputLaws::unmoved, crate::proofs::OutputLaws::fault_begins, crate::proofs::OutputLaws::fault_ends))]
 pub fn move_outputs(words: &mut Words, before: bool, after: bool)
     ensures { Moved before after words.old words.new }
 {
@@ -154,6 +159,7 @@ pub fn move_outputs(words: &mut Words, before: bool, after: bool)
 }
 
 // Where the mask is 1 the driven lines become the source, inverted where polarity is 1.
+#[tactic(auto, using(crate::proofs::OutputLaws::drives))]
 fn drive_row(words: &mut Words, mask: Row, source: Row, polarity: Row)
     ensures { Lined words.new (driven_at words.old mask source polarity) }
 {
@@ -162,8 +168,7 @@ fn drive_row(words: &mut Words, mask: Row, source: Row, polarity: Row)
 }
 
 // The driven lines as sixteen bytes.
-pub fn drive(words: &Words, out: &mut [u8])
-    requires { length out.old ≡ 16 }
+pub fn drive(words: &Words, out: &mut [u8; 16])
     ensures { Driven words.now out.new }
 {
     row(words, DRIVEN).store(out);

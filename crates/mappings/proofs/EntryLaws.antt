@@ -73,3 +73,6 @@ module _ (o : Mapping) (m v : ℕ) where
       by false q =
           checks_by 0 true _ _ _ false b refl refl refl refl q
           (eight b (ltb-false 8 v q) (ap (λ (x : Bool). x || ltb 8 s) (sym q) ∙ h))
+
+-- what the check is told at `check`
+pub ruleset for_check = (while_counted, value_by)

@@ -8,7 +8,7 @@ use native.Mathlib.Nat.{zero-add}
 use native.Mathlib.Omega.{arith}
 use lib.Dec.{eqb}
 use lib.ListN.{length, get_or, set, take, length-set}
-use lib.Seq.{get_or-set_same, get_or-set_other, ext_get_or, take_all, length-take-le}
+use lib.Seq.{get_or-set_same, get_or-set_other, ext_get_or}
 use borrow.Author.Tests.{eqb-true, eqb-false}
 use Rattle.std.proofs.lemmas.List.{take_min}
 use Rattle.profile.specs.Bytes.{list_from}
@@ -126,13 +126,8 @@ emptied_all {deltas} {deltas'} z =
 
 -- ---- the entries in force
 
-pub eight_entries : (deltas : List ℕ) (m : ℕ) → length (mapping_at deltas m).entries ≡ 8
+eight_entries : (deltas : List ℕ) (m : ℕ) → length (mapping_at deltas m).entries ≡ 8
 eight_entries deltas m = list_from_length 8 0 (λ j. get_or deltas (place_of m (1 + j)) 0)
-
--- the first n of all eight are n
-pub first_entries : (deltas : List ℕ) (m n : ℕ) (entries : List ℕ) → entries ≡ (mapping_at deltas m).entries → n ≤ 8
-    → length (take n entries) ≡ n
-first_entries deltas m n entries e h = length-take-le n entries (omega (arith, ap length e, eight_entries deltas m))
 
 -- at most eight are in force
 pub at_most_eight : (deltas : List ℕ) (m n : ℕ) → n ≡ min (mapping_at deltas m).count 8 → InForce deltas m n
@@ -148,9 +143,6 @@ pub record Summed (m : ℕ) (entries : List ℕ) (j r : ℕ) : Type 0 where
   pub is : r ≡ total m (take j entries)
   pub small : r ≤ 31 * j
   pub within : j ≤ length entries
-
-pub summed_none : (m : ℕ) (entries : List ℕ) → Summed m entries 0 0
-summed_none m entries = record { is = refl; small = omega arith; within = omega arith }
 
 take_total : (m : ℕ) (xs : List ℕ) (j : ℕ) → j < length xs → total m (take (suc j) xs) ≡ total m (take j xs) + moved m (get_or xs j 0)
 take_total m [] j h = absurd (omega arith)
@@ -175,9 +167,6 @@ summed_more {m} {entries} {j} {r} s h =
   where
     one : (j : ℕ) → j + 1 ≡ suc j
     one j = omega arith
-
-pub summed_all : {m : ℕ} {entries : List ℕ} {j r : ℕ} → Summed m entries j r → length entries ≤ j → r ≡ total m entries
-summed_all {m} {entries} {j} s h = s.is ∙ ap (total m) (take_all j entries h)
 
 -- ---- the mappings are the array from element 48 on
 

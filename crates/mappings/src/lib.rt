@@ -72,6 +72,7 @@ fn is_mappable(mapping: usize, home: Home) -> bool
 }
 
 // How many bytes an entry moves: none where it is 0.
+#[tactic(auto, using(crate::proofs::EntryLaws::moved_by))]
 pub fn moved(mapping: usize, value: u32) -> usize
     ensures { result ≡ moved mapping value }
 {
@@ -87,6 +88,7 @@ pub fn moved(mapping: usize, value: u32) -> usize
 }
 
 // And several.
+#[tactic(auto, using(profile::proofs::MappedLaws::moved_small, crate::proofs::ViewLaws::summed_more))]
 pub fn total(mapping: usize, entries: &[u32]) -> usize
     requires { length entries.now ≤ 8 }
     ensures { result ≡ total mapping entries.now }
@@ -98,6 +100,7 @@ pub fn total(mapping: usize, entries: &[u32]) -> usize
     sum
 }
 
+#[tactic(auto, using(crate::proofs::ViewLaws::read_is))]
 pub fn read(deltas: &Deltas, m: usize, sub: usize) -> u32
     requires { (m < 8) × (sub ≤ 8) }
     ensures { result ≡ read_mapping sub (mapping_at deltas.now m) }
@@ -106,8 +109,7 @@ pub fn read(deltas: &Deltas, m: usize, sub: usize) -> u32
 }
 
 pub fn write(deltas: &mut Deltas, m: usize, sub: usize, value: u32)
-    requires deltas_len { length deltas.old ≡ 120 }
-    requires m_bound { (m < 8) × (sub ≤ 8) }
+    requires { (m < 8) × (sub ≤ 8) }
     ensures { MappingStored m sub value deltas.old deltas.new }
 {
     deltas[MAPPINGS + (NUMBERS * m + sub)] = value;
@@ -116,14 +118,12 @@ pub fn write(deltas: &mut Deltas, m: usize, sub: usize, value: u32)
 // The receive mappings become empty, and the transmit mappings: in two parts, since a fill of more than 256 bytes would be compiled to a
 // call of memset.
 pub fn empty_received(deltas: &mut Deltas)
-    requires { length deltas.old ≡ 120 }
     ensures { Zeroed 48 84 deltas.old deltas.new }
 {
     zero_deltas(deltas, MAPPINGS, TRANSMITTED);
 }
 
 pub fn empty_transmitted(deltas: &mut Deltas)
-    requires { length deltas.old ≡ 120 }
     ensures { Zeroed 84 120 deltas.old deltas.new }
 {
     zero_deltas(deltas, TRANSMITTED, DELTAS);
@@ -141,6 +141,7 @@ pub fn entries_at(deltas: &Deltas, m: usize) -> [u32; 8]
 }
 
 // How many of them are in force.
+#[tactic(auto, using(crate::proofs::ViewLaws::at_most_eight), unfolding(profile::specs::Mapping::read_mapping))]
 pub fn in_force(deltas: &Deltas, m: usize) -> usize
     requires { m < 8 }
     ensures { InForce deltas.now m result }
@@ -149,6 +150,7 @@ pub fn in_force(deltas: &Deltas, m: usize) -> usize
 }
 
 // Whether a value may be written to a mapping.
+#[tactic(auto, using(crate::proofs::EntryLaws::for_check), unfolding(profile::specs::Mapping::read_mapping))]
 pub fn check(deltas: &Deltas, m: usize, sub: usize, value: u32) -> Result<(), Refusal>
     requires { m < 8 }
     ensures { number_answered result ≡ first (mapping_checks (mapping_at deltas.now m) m sub value) }
@@ -165,6 +167,7 @@ pub fn check(deltas: &Deltas, m: usize, sub: usize, value: u32) -> Result<(), Re
     Ok(())
 }
 
+#[tactic(auto, using(crate::proofs::EntryLaws::count_by))]
 fn check_count(deltas: &Deltas, m: usize, value: u32) -> Result<(), Refusal>
     requires { m < 8 }
     ensures { number_answered result ≡ first (mapping_checks (mapping_at deltas.now m) m 0 value) }

@@ -3,10 +3,12 @@
 use mathlib.Core.Path.{◌≡◌, refl, ap, ◌∙◌, sym, subst}
 use mathlib.Core.Bool.{Bool, true, false, cond}
 use mathlib.Core.List.{List, [], ◌∷◌, ◌++◌}
-use Prim.Native.Nat.{ℕ, ◌≤◌}
+use Prim.Native.Nat.{ℕ, suc, ◌+◌, ◌-◌, ◌/◌, ◌%◌, ◌≤◌, ◌<◌}
+use native.Mathlib.Omega.{arith}
 use lib.Dec.{eqb}
 use lib.ListN.{length, get_or, take, drop}
 use Rattle.std.specs.List.{between}
+use Rattle.std.proofs.lemmas.Grind.{common_steps}
 use Rattle.std.proofs.lemmas.Slice.{first_rest}
 use Rattle.profile.specs.declared.Message.{Message}
 use Rattle.profile.specs.Bytes.{bytes_of}
@@ -88,5 +90,11 @@ pub replied : (ms : Machines) (message : Message) (frame : List ℕ)
 unfolding reply number_of answer_to refuse_to
 replied ms message frame = refl
 
--- what the check is told at `transmit`
+-- byte i of the n of a number
+pub next_byte : (n i v : ℕ) → i < n → bytes_of (n - i) v ≡ v % 256 ∷ bytes_of (n - (i + 1)) (v / 256)
+next_byte n i v h = let more : n - i ≡ suc (n - (i + 1)) = omega arith in ap (λ (k : ℕ). bytes_of k v) more
+
+-- what the check is told at `transmit` and at `put`
 pub ruleset for_transmit = (replied, nonzero)
+
+pub ruleset for_put = (next_byte, common_steps)

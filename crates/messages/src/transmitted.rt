@@ -1,5 +1,5 @@
 // A transmitted frame: each entry of its mapping is put into the rest of the frame after the one before.
-ghost use Rattle.std.specs.Prelude.{◌≡◌, false, ◌++◌, ◌≤◌, length, drop};
+ghost use Rattle.std.specs.Prelude.{◌≡◌, false, ◌≤◌, length};
 ghost use Rattle.profile.specs.Answers.{buffer_answer};
 ghost use Rattle.profile.specs.Bytes.{bytes_of};
 ghost use Rattle.profile.specs.MappedEntries as mapped;
@@ -83,6 +83,7 @@ fn shown(store: &Store, home: Home) -> u32
 }
 
 // The value's bytes, least significant first.
+#[tactic(auto, using(crate::proofs::FrameLaws::for_put))]
 fn put(bytes: &mut [u8], value: u32)
     ensures { bytes.new ≡ bytes_of (length bytes.old) value }
 {

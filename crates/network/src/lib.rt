@@ -66,6 +66,7 @@ pub fn clear(store: &mut Store, cause: Cause)
 }
 
 // The node is stored, and where fault begins or ends every output moves.
+#[tactic(auto, using(lines::proofs::OutputLaws::unmoved, analogue_outputs::proofs::StoreLaws::unmoved))]
 fn enter(store: &mut Store, new: Node)
     ensures { Entered new store.old store.new }
 {

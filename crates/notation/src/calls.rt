@@ -1,5 +1,6 @@
 // A line as a call.
 ghost use Rattle.std.specs.Prelude.{◌≡◌};
+ghost use Rattle.profile.specs.Commands.{command_code};
 ghost use Rattle.words.specs.Words.{words_of};
 ghost use Rattle.words.specs.Items.{byte_item, items_of};
 ghost use Rattle.notation.specs.Promises.{SaysCause, said, up_to};
@@ -12,6 +13,7 @@ use crate::messages::{receive, transmit};
 use crate::parts::{end, past_slash, small};
 use crate::requests::request;
 use profile::Cause;
+use profile::commands::Command;
 use words::Expected;
 use words::items::{ListItem, read_items};
 use words::numbers::hexadecimal;
@@ -72,19 +74,19 @@ fn named_command(word: &[u8], rest: &[u8]) -> Result<Call, Expected>
     ensures { said result ≡ named_command word.now (words_of rest.now) }
 {
     if word == b"start".as_slice() {
-        return command_to(1, rest);
+        return command_to(Command::Start, rest);
     }
     if word == b"stop".as_slice() {
-        return command_to(2, rest);
+        return command_to(Command::Stop, rest);
     }
     if word == b"pre-operational".as_slice() {
-        return command_to(128, rest);
+        return command_to(Command::EnterPreOperational, rest);
     }
     if word == b"reset-node".as_slice() {
-        return command_to(129, rest);
+        return command_to(Command::ResetNode, rest);
     }
     if word == b"reset-communication".as_slice() {
-        return command_to(130, rest);
+        return command_to(Command::ResetCommunication, rest);
     }
     access(word, rest)
 }
@@ -111,9 +113,10 @@ fn command(rest: &[u8]) -> Result<Call, Expected>
 
 // A command by name, for all nodes unless a number follows.
 #[tactic(auto, using(crate::proofs::Laws::next), unfolding(crate::specs::Meanings::named_meaning))]
-fn command_to(code: u8, rest: &[u8]) -> Result<Call, Expected>
-    ensures { said result ≡ named_meaning code (words_of rest.now) }
+fn command_to(command: Command, rest: &[u8]) -> Result<Call, Expected>
+    ensures { said result ≡ named_meaning (command_code command) (words_of rest.now) }
 {
+    let code = command as u8;
     if is_blank(rest) {
         return Ok(Call::Command(code, 0));
     }

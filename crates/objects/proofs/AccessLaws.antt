@@ -24,6 +24,7 @@ use Rattle.channels.specs.Numbers.{NumberOf}
 use Rattle.store.specs.Promises.{Ensured, Stepped, Readable, Writable, wrote, held_by}
 use Rattle.store.proofs.EntryLaws.{entry_readable, data_short, entry_writable}
 use Rattle.store.proofs.KeepLaws.{left_alone, taken}
+use Rattle.store.proofs.StepLaws.{window_stepped, input_stepped, output_stepped, mapping_stepped}
 use Rattle.store.proofs.OutcomeLaws.{refused_outcome, access_refused, value_refused, write_outcome}
 
 -- the rows of an entry that is not there
@@ -127,3 +128,8 @@ module _ (index sub : ℕ) (e : code.Entry) (found : present e ≡ entry_of inde
       write_refused d index sub bytes (refusal_number r) (not_accepted r)
       (rows ∙ ap (λ (x : Entry). first (access_checks false x (length bytes))) found
       ∙ ap (λ (t : Bool). first (access_checks t (entry_of index sub) (length bytes))) (sym h))
+
+-- what the check is told at `write` and at `after_write`
+pub ruleset for_write = (short_at, writable_at)
+
+pub ruleset for_after_write = (window_stepped, input_stepped, output_stepped, mapping_stepped)

@@ -1,7 +1,7 @@
 // read and write, in place.
 #![tactic(auto)]
 
-ghost use Rattle.std.specs.Prelude.{◌≡◌, ◌++◌, length};
+ghost use Rattle.std.specs.Prelude.{◌≡◌, ◌++◌};
 ghost use Rattle.profile.specs.Numbers.{number_answered};
 ghost use Rattle.profile.specs.Answers.{present, plain_answer, read_answer};
 ghost use Rattle.profile.specs.Refusals.{first, value_checks};
@@ -39,6 +39,7 @@ pub fn read(store: &mut Store, index: u16, sub: u8) -> Result<ReadValue, Refusal
 }
 
 // The value that a read of an entry answers.
+#[tactic(auto, unfolding(profile::specs::Replies::read_value))]
 fn value_at(store: &Store, home: Home) -> u32
     requires { Readable home }
     ensures { result ≡ read_value (machines_of store.now) home }
@@ -68,7 +69,6 @@ fn value_at(store: &Store, home: Home) -> u32
 
 // A read of 6422:1 clears the source bits that it answers.
 fn take_sources(octets: &mut Octets, home: Home)
-    requires { length octets.old ≡ 22 }
     ensures { SourcesRead home octets.old octets.new }
 {
     if let Home::Sources = home {
@@ -76,6 +76,7 @@ fn take_sources(octets: &mut Octets, home: Home)
     }
 }
 
+#[tactic(auto, using(crate::proofs::AccessLaws::for_write))]
 pub fn write(store: &mut Store, index: u16, sub: u8, bytes: &[u8]) -> Result<(), Refusal>
     ensures { Ensured store.old (direct (Plain.write index sub bytes.now)) (plain_answer result) store.new }
 {
@@ -104,6 +105,7 @@ fn check_written(deltas: &Deltas, entry: Entry, value: u32) -> Result<(), Refusa
 }
 
 // A write that is not refused, by where its entry lives.
+#[tactic(auto, using(crate::proofs::AccessLaws::for_after_write))]
 fn after_write(store: &mut Store, home: Home, value: u32)
     requires { Writable home value }
     ensures { Stepped store.old store.new (wrote home value (parts_of store.old)) }

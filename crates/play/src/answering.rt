@@ -6,7 +6,6 @@ ghost use Rattle.play.specs.Sessions.{full, PlayedWhole, Remembered, Answered};
 
 use crate::session::Session;
 use answers::put_unmet;
-use std::num::wrapping_add_u64;
 use words::Expected;
 use words::buffers::Buffer;
 use words::expectations::{expected, is_as_expected, is_expectation};
@@ -68,10 +67,10 @@ impl Session {
             return self.reject(Expected::Answer);
         }
         if is_as_expected(&self.answer, text) {
-            self.met = wrapping_add_u64(self.met, 1);
+            self.met = self.met.wrapping_add(1);
             return;
         }
-        self.unmet = wrapping_add_u64(self.unmet, 1);
+        self.unmet = self.unmet.wrapping_add(1);
         put_unmet(&mut self.out, self.lines, text);
     }
 }

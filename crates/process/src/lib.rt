@@ -29,6 +29,9 @@ pub fn sample(
     ensures kept { store.new ≡ with_sampled store.new.octets store.new.words store.new.values store.old }
 {
     check_sample(digital.len(), analogue.len(), events.len())?;
+    let digital = digital.as_array().unwrap();
+    let analogue = analogue.as_array().unwrap();
+    let events = events.as_mut_array().unwrap();
     let node = store.node();
     let operational = is_operational(node);
     let edges = machines::sample(&mut store.words, Row::load(digital), node.length);
@@ -49,12 +52,15 @@ pub fn drive(store: &Store, lines: &mut [u8], channels: &mut [i16]) -> Result<()
     ensures { Ensured store.now (direct (Plain.drive lines.old channels.old)) (drive_answer result lines.new channels.new) store.now }
 {
     check_drive(lines.len(), channels.len())?;
+    let lines = lines.as_mut_array().unwrap();
+    let channels = channels.as_mut_array().unwrap();
     machines::drive(&store.words, lines);
     analogue_outputs::drive(&store.values, channels);
     Ok(())
 }
 
 // Edges are events while the node is operational and 6005 is 1.
+#[tactic(auto, using(store::proofs::MachineLaws::zero_row))]
 fn reported(edges: Row, on: bool) -> Row
     ensures { Reported on edges result }
 {

@@ -1,7 +1,7 @@
 // request, in place: the service data server of document 02.
 #![tactic(auto)]
 
-ghost use Rattle.std.specs.Prelude.{◌≡◌, true, false, length};
+ghost use Rattle.std.specs.Prelude.{◌≡◌, true, false};
 ghost use Rattle.profile.specs.Answers.{buffer_answer};
 ghost use Rattle.profile.specs.Nodes.{stopped};
 ghost use Rattle.profile.specs.Calls.{Plain, Call};
@@ -28,14 +28,15 @@ pub fn request(store: &mut Store, frame: &[u8], reply: &mut [u8]) -> Result<usiz
     if is_stopped(store.node()) {
         return Ok(0);
     }
+    let frame = frame.as_array().unwrap();
+    let reply = reply.as_mut_array().unwrap();
     Ok(serve(store, frame, reply))
 }
 
 // The length of the reply to a request of a node that is not stopped.
 #[tactic(auto, using(crate::proofs::Laws::for_serve), unfolding(profile::specs::Refusals::request_refusal, profile::specs::Server::asked))]
-fn serve(store: &mut Store, frame: &[u8], reply: &mut [u8]) -> usize
-    requires { (length frame.now ≡ 8) × (length reply.old ≡ 8)
-        × (stopped (node_at store.old.octets store.old.flags) ≡ false) }
+fn serve(store: &mut Store, frame: &[u8; 8], reply: &mut [u8; 8]) -> usize
+    requires { stopped (node_at store.old.octets store.old.flags) ≡ false }
     ensures { Ensured store.old (Call.request frame.now reply.old) (transmit_reply result reply.new) store.new }
 {
     let first = frame[0];
@@ -56,20 +57,20 @@ fn serve(store: &mut Store, frame: &[u8], reply: &mut [u8]) -> usize
 
 // The plain read, and its reply as a frame.
 #[tactic(auto, using(crate::proofs::Laws::for_upload), unfolding(profile::specs::Server::encoded))]
-fn upload(store: &mut Store, frame: &[u8], reply: &mut [u8])
-    requires { (length frame.now ≡ 8) × (length reply.old ≡ 8) × (asks_upload frame.now ≡ true) }
+fn upload(store: &mut Store, frame: &[u8; 8], reply: &mut [u8; 8])
+    requires { asks_upload frame.now ≡ true }
     ensures { Done store.old (Plain.read (index_in frame.now) (sub_in frame.now)) frame.now reply.new store.new }
 {
     match read(store, index_in(frame), sub_in(frame)) {
-        Ok(done) => put_upload(frame, reply, done.size, done.value),
+        Ok(done) => put_upload(frame, reply, done),
         Err(refusal) => put_abort(frame, reply, refusal.number()),
     }
 }
 
 // The plain write, and its reply as a frame.
 #[tactic(auto, using(profile::proofs::AnswerLaws::nonzero), unfolding(profile::specs::Server::encoded))]
-fn download(store: &mut Store, frame: &[u8], reply: &mut [u8])
-    requires { (length frame.now ≡ 8) × (length reply.old ≡ 8) × (asks_upload frame.now ≡ false) }
+fn download(store: &mut Store, frame: &[u8; 8], reply: &mut [u8; 8])
+    requires { asks_upload frame.now ≡ false }
     ensures { Done store.old
         (Plain.write (index_in frame.now) (sub_in frame.now) (data_in (size_in frame.now) frame.now))
         frame.now reply.new store.new }

@@ -1,9 +1,10 @@
 // The eight bytes of a reply: its first byte, the request's second to fourth bytes, and data.
-ghost use Rattle.std.specs.Prelude.{◌≡◌, ◌%◌, ◌^◌, ◌≤◌, length};
+ghost use Rattle.std.specs.Prelude.{◌≡◌, ◌%◌, ◌^◌, ◌≤◌};
 ghost use Rattle.profile.specs.Server.{reply_frame, download_reply, upload_reply, abort_reply};
 ghost use Rattle.server_frames.specs.Layout.{headed, filled};
 
 use crate::first::first_byte;
+use profile::ReadValue;
 
 // What a server answers, by its command specifier.
 enum Answered {
@@ -12,8 +13,7 @@ enum Answered {
     Abort = 4,
 }
 
-pub fn put_download(frame: &[u8], reply: &mut [u8])
-    requires { (length frame.now ≡ 8) × (length reply.old ≡ 8) }
+pub fn put_download(frame: &[u8; 8], reply: &mut [u8; 8])
     ensures { reply.new ≡ download_reply frame.now }
 {
     let first = first_byte(Answered::Download as u8, 0, false, false);
@@ -21,16 +21,15 @@ pub fn put_download(frame: &[u8], reply: &mut [u8])
 }
 
 // Expedited, and tells its size.
-pub fn put_upload(frame: &[u8], reply: &mut [u8], size: usize, value: u32)
-    requires { (length frame.now ≡ 8) × (length reply.old ≡ 8) × (1 ≤ size) × (size ≤ 4) }
-    ensures { reply.new ≡ upload_reply frame.now size value }
+pub fn put_upload(frame: &[u8; 8], reply: &mut [u8; 8], read: ReadValue)
+    requires { (1 ≤ read.size) × (read.size ≤ 4) }
+    ensures { reply.new ≡ upload_reply frame.now read.size read.value }
 {
-    let first = first_byte(Answered::Upload as u8, (4 - size) as u8, true, true);
-    put_reply(frame, reply, first, size, value);
+    let first = first_byte(Answered::Upload as u8, (4 - read.size) as u8, true, true);
+    put_reply(frame, reply, first, read.size, read.value);
 }
 
-pub fn put_abort(frame: &[u8], reply: &mut [u8], code: u32)
-    requires { (length frame.now ≡ 8) × (length reply.old ≡ 8) }
+pub fn put_abort(frame: &[u8; 8], reply: &mut [u8; 8], code: u32)
     ensures { reply.new ≡ abort_reply frame.now code }
 {
     let first = first_byte(Answered::Abort as u8, 0, false, false);
@@ -38,16 +37,16 @@ pub fn put_abort(frame: &[u8], reply: &mut [u8], code: u32)
 }
 
 // So many data bytes hold the value, the spare ones are 0.
-fn put_reply(frame: &[u8], reply: &mut [u8], first: u8, size: usize, value: u32)
-    requires { (length frame.now ≡ 8) × (length reply.old ≡ 8) × (size ≤ 4) }
+#[tactic(auto, using(crate::proofs::LayoutLaws::reply_stored))]
+fn put_reply(frame: &[u8; 8], reply: &mut [u8; 8], first: u8, size: usize, value: u32)
+    requires { size ≤ 4 }
     ensures { reply.new ≡ reply_frame first frame.now size value }
 {
     put_head(frame, reply, first);
     put_data(reply, low_bytes(value, size));
 }
 
-fn put_head(frame: &[u8], reply: &mut [u8], first: u8)
-    requires { (length frame.now ≡ 8) × (length reply.old ≡ 8) }
+fn put_head(frame: &[u8; 8], reply: &mut [u8; 8], first: u8)
     ensures { reply.new ≡ headed first frame.now reply.old }
 {
     reply[0] = first;
@@ -57,8 +56,7 @@ fn put_head(frame: &[u8], reply: &mut [u8], first: u8)
     reply[3] = frame[3];
 }
 
-fn put_data(reply: &mut [u8], held: u32)
-    requires { length reply.old ≡ 8 }
+fn put_data(reply: &mut [u8; 8], held: u32)
     ensures { reply.new ≡ filled held reply.old }
 {
     reply[4..8].copy_from_slice(&held.to_le_bytes());

@@ -1,5 +1,5 @@
 // What a request asks: a download or an upload of which entry, with which size.
-ghost use Rattle.std.specs.Prelude.{◌≡◌, ◌&&◌, ◌≤◌, eqb, length};
+ghost use Rattle.std.specs.Prelude.{◌≡◌, ◌&&◌, ◌≤◌, eqb};
 ghost use Rattle.profile.specs.Bytes.{little_endian};
 ghost use Rattle.profile.specs.Server.{command_of, is_expedited, told_size, index_in, sub_in, data_in, size_in};
 
@@ -35,31 +35,27 @@ pub fn aborts(first: u8) -> bool
 }
 
 // The second and the third byte, the least significant first.
-pub fn index_in(frame: &[u8]) -> u16
-    requires { length frame.now ≡ 8 }
+pub fn index_in(frame: &[u8; 8]) -> u16
     ensures { result ≡ index_in frame.now }
 {
     u16::from_le_bytes([frame[1], frame[2]])
 }
 
-pub fn sub_in(frame: &[u8]) -> u8
-    requires { length frame.now ≡ 8 }
+pub fn sub_in(frame: &[u8; 8]) -> u8
     ensures { result ≡ sub_in frame.now }
 {
     frame[3]
 }
 
 // The code of an abort.
-pub fn code_in(frame: &[u8]) -> u32
-    requires { length frame.now ≡ 8 }
+pub fn code_in(frame: &[u8; 8]) -> u32
     ensures { result ≡ little_endian (data_in 4 frame.now) }
 {
     number(&frame[4..])
 }
 
 // How many of the four data bytes a download writes: as many as it tells, or as many as the entry has.
-pub fn size_in(frame: &[u8]) -> usize
-    requires { length frame.now ≡ 8 }
+pub fn size_in(frame: &[u8; 8]) -> usize
     ensures { (result ≡ size_in frame.now) × (result ≤ 4) }
 {
     if tells_size(frame[0]) {

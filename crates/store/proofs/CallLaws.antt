@@ -86,16 +86,14 @@ driven {d} z l c = left_alone d _ _ (drive_outcome (parts_of d) _ _ _ _ (sym z) 
 
 -- ---- raise and clear
 
-module _ (d e : Store) (cause : Cause) (n : Node) (en : Entered n d e) where
-  pub raised : n ≡ raise_node cause (node_at d.octets d.flags) → Ensured d (direct (raise cause)) (plain 0) e
-  raised q =
-      let s = rw q at (entered d en) in
-      taken d e _ _ refl refl s.normal (raise_outcome (parts_of d) (parts_of e) _ s.machines)
+module _ (d e : Store) (cause : Cause) where
+  pub raised : Entered (raise_node cause (node_at d.octets d.flags)) d e → Ensured d (direct (raise cause)) (plain 0) e
+  raised en =
+      let s = entered d en in taken d e _ _ refl refl s.normal (raise_outcome (parts_of d) (parts_of e) _ s.machines)
 
-  pub cleared : n ≡ clear_node cause (node_at d.octets d.flags) → Ensured d (direct (clear cause)) (plain 0) e
-  cleared q =
-      let s = rw q at (entered d en) in
-      taken d e _ _ refl refl s.normal (clear_outcome (parts_of d) (parts_of e) _ s.machines)
+  pub cleared : Entered (clear_node cause (node_at d.octets d.flags)) d e → Ensured d (direct (clear cause)) (plain 0) e
+  cleared en =
+      let s = entered d en in taken d e _ _ refl refl s.normal (clear_outcome (parts_of d) (parts_of e) _ s.machines)
 
 -- ---- command
 

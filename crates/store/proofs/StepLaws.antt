@@ -127,16 +127,16 @@ module _ (d : Store) where
 
   -- ---- the node written
 
-  pub setting_stepped : (n : Node) (index v : ℕ) → Sized d → n ≡ write_node (home.Device index) v (node_at d.octets d.flags)
-      → Stepped d (with_node n d) (wrote (home.Device index) v (parts_of d))
-  setting_stepped n index v s is =
-      record {
+  pub setting_stepped : (n : Node) (index v : ℕ) (left : Store) → left ≡ with_node n d → Sized d
+      → n ≡ write_node (home.Device index) v (node_at d.octets d.flags) → Stepped d left (wrote (home.Device index) v (parts_of d))
+  setting_stepped n index v left e s is =
+      rw e (record {
         machines =
             setting_wrote (parts_of d) (parts_of (with_node n d)) index v
             (node_stored d.octets d.flags n s.octets s.flags ∙ is) refl
             (inputs_past n d.deltas d.values (λ k h. refl) (λ k h. refl)) (outputs_past n) (λ i h. refl);
         normal = λ old. record { state = node_normal d.octets d.flags n s.octets s.flags };
-      }
+      })
 
   -- ---- a write to a window, an input or an output
 

@@ -10,12 +10,12 @@ use lib.Pow.{pow_mono}
 use lib.Dec.{eqb, ltb, leb}
 use lib.ListN.{length, get_or, set, length-set}
 use lib.Seq.{get_or-set_same, get_or-set_other}
-use lib.Bits.{bit_and, bit_or}
+use lib.Bits.{bit_and, bit_or, bit_xor}
 use borrow.Author.Tests.{lt-ltb, le-ltb, ltb-true, ltb-false, leb-true, leb-false, eqb-true, eqb-false}
-use Rattle.profile.specs.Bits.{bit_at}
+use Rattle.profile.specs.Bits.{bit_at, flip}
 use Rattle.profile.specs.Entries.{inside, bit_of}
 use Rattle.profile.proofs.BoolLaws.{both}
-use Rattle.profile.proofs.BitLaws.{bit_and_lem, bit_or_lem, bit_not, bit_ones, bit_zero}
+use Rattle.profile.proofs.BitLaws.{bit_and_lem, bit_or_lem, bit_xor_lem, bit_not, bit_ones, bit_zero}
 use Rattle.windows.specs.declared.Row.{Row}
 use Rattle.windows.specs.View.{line_at, row_at, is_empty, window}
 use Rattle.windows.specs.Promises.{Lined, written, masked, row_set, cleared, RowOf, Joins, Inverts, Picks}
@@ -28,7 +28,7 @@ cond_op f true p q x y = refl
 cond_op f false p q x y = refl
 
 -- an operation on words with a law at each bit has that law at each line of a row
-pub row_op : (op : ℕ → ℕ → ℕ) (f : Bool → Bool → Bool) → ((a b i : ℕ) → bit_at (op a b) i ≡ f (bit_at a i) (bit_at b i))
+row_op : (op : ℕ → ℕ → ℕ) (f : Bool → Bool → Bool) → ((a b i : ℕ) → bit_at (op a b) i ≡ f (bit_at a i) (bit_at b i))
     → (x y : Row) → Joins f x y (record { low = op x.low y.low; high = op x.high y.high })
 unfolding row_at
 row_op op f law x y =
@@ -37,6 +37,15 @@ row_op op f law x y =
           ap₂ (cond (ltb i 64)) (law x.low y.low (i % 64)) (law x.high y.high (i % 64))
           ∙ cond_op f (ltb i 64) _ _ _ _;
     }
+
+pub row_and : (x y : Row) → Joins ◌&&◌ x y (record { low = bit_and x.low y.low; high = bit_and x.high y.high })
+row_and = row_op bit_and ◌&&◌ bit_and_lem
+
+pub row_or : (x y : Row) → Joins ◌||◌ x y (record { low = bit_or x.low y.low; high = bit_or x.high y.high })
+row_or = row_op bit_or ◌||◌ bit_or_lem
+
+pub row_xor : (x y : Row) → Joins flip x y (record { low = bit_xor x.low y.low; high = bit_xor x.high y.high })
+row_xor = row_op bit_xor flip bit_xor_lem
 
 cond_not : (t p q : Bool) → cond t (not p) (not q) ≡ not (cond t p q)
 cond_not true p q = refl

@@ -26,6 +26,7 @@ fn locate(row: usize, width: usize, sub: usize) -> Place
 }
 
 // The value of a window.
+#[tactic(auto, using(crate::proofs::WindowLaws::window_read))]
 pub fn get(words: &Words, row: usize, width: usize, sub: usize) -> u32
     requires { Covers row width sub }
     ensures { result ≡ window words.now row width sub }
@@ -63,6 +64,7 @@ pub fn put_masked(words: &mut Words, row: usize, gate: usize, width: usize, sub:
 }
 
 // A whole row.
+#[tactic(auto, using(crate::proofs::RowLaws::row_read))]
 pub fn row(words: &Words, a: usize) -> Row
     requires { a < 20 }
     ensures { RowOf words.now a result }

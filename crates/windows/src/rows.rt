@@ -13,6 +13,7 @@ impl BitAnd for Row {
 
     ghost bitand_gives = { Joins ◌&&◌ };
 
+    #[tactic(auto, using(crate::proofs::RowLaws::row_and))]
     fn bitand(self, other: Row) -> Row {
         Row {
             low: self.low & other.low,
@@ -26,6 +27,7 @@ impl BitOr for Row {
 
     ghost bitor_gives = { Joins ◌||◌ };
 
+    #[tactic(auto, using(crate::proofs::RowLaws::row_or))]
     fn bitor(self, other: Row) -> Row {
         Row {
             low: self.low | other.low,
@@ -39,6 +41,7 @@ impl BitXor for Row {
 
     ghost bitxor_gives = { Joins flip };
 
+    #[tactic(auto, using(crate::proofs::RowLaws::row_xor))]
     fn bitxor(self, other: Row) -> Row {
         Row {
             low: self.low ^ other.low,
@@ -52,6 +55,7 @@ impl Not for Row {
 
     ghost not_gives = { Inverts };
 
+    #[tactic(auto, using(crate::proofs::RowLaws::row_not))]
     fn not(self) -> Row {
         Row {
             low: !self.low,
@@ -70,6 +74,7 @@ impl Row {
     };
 
     // Where self is 1 the line of a, else that of b.
+    #[tactic(auto, using(crate::proofs::RowLaws::row_pick))]
     pub fn pick(self, a: Row, b: Row) -> Row
         ensures { Picks self a b result }
     {
@@ -84,8 +89,8 @@ impl Row {
     }
 
     // The row that sixteen bytes hold.
-    pub fn load(bytes: &[u8]) -> Row
-        requires { length bytes.now ≡ 16 }
+    #[tactic(auto, using(crate::proofs::ByteLaws::loaded))]
+    pub fn load(bytes: &[u8; 16]) -> Row
         ensures { Loaded bytes.now result }
     {
         let (low, high) = bytes.split_at(8);
@@ -96,8 +101,8 @@ impl Row {
     }
 
     // The row as sixteen bytes.
-    pub fn store(self, out: &mut [u8])
-        requires { length out.old ≡ 16 }
+    #[tactic(auto, using(crate::proofs::ByteLaws::halves))]
+    pub fn store(self, out: &mut [u8; 16])
         ensures { out.new ≡ bytes 16 (row_at self) }
     {
         let (low, high) = out.split_at_mut(8);
@@ -107,6 +112,7 @@ impl Row {
 }
 
 // One word as eight bytes, the least significant first.
+#[tactic(auto, using(crate::proofs::ByteLaws::word_bytes))]
 fn put_word(word: u64, out: &mut [u8])
     requires { length out.old ≡ 8 }
     ensures { out.new ≡ bytes 8 (bit_at word) }
@@ -115,6 +121,7 @@ fn put_word(word: u64, out: &mut [u8])
 }
 
 // Eight bytes as one word, the least significant first.
+#[tactic(auto, using(crate::proofs::ByteLaws::bytes_word))]
 fn word(bytes: &[u8]) -> u64
     requires { length bytes.now ≡ 8 }
     ensures { result ≡ gather 64 (line_bit bytes.now) }

@@ -38,20 +38,11 @@ module _ {A : Type 0} where
   onto xs (items ys ws) = items (xs ++ ys) ws
   onto xs (missing e) = missing e
 
-  onto_none : (f : Found A) → onto [] f ≡ f
-  onto_none (items ys ws) = refl
-  onto_none (missing e) = refl
-
   onto_more : (xs : List A) (x : A) (f : Found A) → onto xs (with_item x f) ≡ onto (xs ++ (x ∷ [])) f
   onto_more xs x (items ys ws) = ap (λ (l : List A). items l ws) (sym (append_assoc xs (x ∷ []) ys))
   onto_more xs x (missing e) = refl
 
 module _ {A : Type 0} (k : Item A) where
-  items_over : (n : ℕ) (ws : List (List ℕ)) → is_over ws ≡ true → items_of k n ws ≡ items [] ws
-  items_over n [] e = refl
-  items_over zero (w ∷ ws) e = rw e
-  items_over (suc n) (w ∷ ws) e = rw e
-
   module _ (w : List ℕ) (ws : List (List ℕ)) (on : is_word w slash ≡ false) where
     items_wrong : (n : ℕ) (e : Expected) → read_as k w ≡ Err e → items_of k n (w ∷ ws) ≡ missing e
     items_wrong zero e r = grind (arith, nat_tests)
@@ -82,24 +73,7 @@ ends_on line rest e =
     ap (drop (n + m)) e ∙ drop-drop (n + m) (length line - length rest) line
     ∙ ap (λ i. drop i line) (omega (arith, length-drop n rest, length-drop (n + m) rest))
 
-module _ {A : Type 0} (k : Item A) (most : ℕ) (line : List ℕ) where
-  pub reading_none : Reading k most line [] line
-  reading_none = record {
-    found = let all : most ≡ most - 0 = omega arith in
-        sym (onto_none (items_of k most (words_of line))) ∙ ap (λ n. onto [] (items_of k n (words_of line))) all;
-    room = omega arith;
-    behind = let none : 0 ≡ length line - length line = omega arith in ap (λ n. drop n line) none;
-  }
-
 module _ {A : Type 0} (k : Item A) (most : ℕ) (line : List ℕ) (held : List A) (rest : List ℕ) (so : Reading k most line held rest) where
-  pub reading_over : is_over (words_of rest) ≡ true → InBuffer k most line held rest
-  reading_over e = record {
-    found = so.found ∙ ap (onto held) (items_over k (most - length held) (words_of rest) e) ∙ ap
-        (λ (l : List A). items l (words_of rest)) (append-nil held);
-    room = so.room;
-    behind = so.behind;
-  }
-
   module _ (on : is_over (words_of rest) ≡ false) where
     here : items_of k most (words_of line)
         ≡ onto held (items_of k (most - length held) (first_word rest ∷ words_of (after_word rest)))

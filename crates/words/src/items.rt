@@ -1,5 +1,5 @@
 // Lists of bytes and of numbers in a line, up to a `/` or the line's end.
-ghost use Rattle.std.specs.Prelude.{◌≡◌, take, ℤ};
+ghost use Rattle.std.specs.Prelude.{◌≡◌, take};
 ghost use Rattle.words.specs.Words.{words_of};
 ghost use Rattle.words.specs.Items.{Item, ReadInto, byte_item, number_item, read_as, is_over};
 

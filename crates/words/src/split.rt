@@ -1,5 +1,5 @@
 // The words of a line: runs of bytes between spaces.
-ghost use Rattle.std.specs.Prelude.{◌≡◌, true, false, ◌≤◌, length, take, drop};
+ghost use Rattle.std.specs.Prelude.{◌≡◌, true, false, drop};
 ghost use Rattle.words.specs.Words.{InFront, WordEnd, first_word, after_word, is_blank, without_return, content_of};
 
 // How many bytes in front are `byte`.

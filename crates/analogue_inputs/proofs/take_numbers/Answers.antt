@@ -8,7 +8,7 @@ use mathlib.Core.List.{List}
 use native.Mathlib.Omega.{arith}
 use borrow.Author.Rules.{rules}
 use lib.IntN.{ℤ, pos}
-use lib.ListN.{get_or}
+use lib.ListN.{length, get_or}
 use mir.Syntax.{w16}
 use mir.Val.{SFits, to_z, of_z}
 use mir.Facts.{to_z-of_z}
@@ -58,17 +58,18 @@ loop-i-preserved-then-not-is_still c =
     let same : input_at a.octets.now a.limits.now a.deltas.now l.values i ≡ old i = inv.1.low i
     (omega (arith, more)) h in
     let new = c.sampled-result.result.channel in
-    let g : Sampled a.on v (old i) c.sampled-result.result.event new = rw (e, c.input_at-seen.ensures, same) at
+    let g : Sampled a.on v (old i) c.sampled-result.result.event new = rw (e, c.input_at-then-not-is_still.ensures, same) at
     c.sampled-result.ensures in
     let becomes = channel_is a.on xs old i _ _ g in
-    let stored = c.set_sample.ensures in (
+    let stored = c.set_sample.ensures in
+    let long : length a.values.now ≡ 56 = search rules in (
       omega arith,
       rw stored
           (backward_more _ _ _ _ _ l.i inv.1 more
           (sampled_here a.octets.now a.limits.now a.deltas.now l.values i new h
-          (inv.3.len ∙ c.requires.values_len) _ v (becomes ∙ ap (sample_channel (met a.on xs old i) v) (sym same))
+          (inv.3.len ∙ long) _ v (becomes ∙ ap (sample_channel (met a.on xs old i) v) (sym same))
           ∙ ap (took_number (met a.on xs old i) v) same)
-          (sampled_else a.octets.now a.limits.now a.deltas.now l.values i new h (inv.3.len ∙ c.requires.values_len))),
+          (sampled_else a.octets.now a.limits.now a.deltas.now l.values i new h (inv.3.len ∙ long))),
       missing_less inv.2 more inv.0 _ _ (event_is a.on xs old i _ _ g) c.from.ensures,
       rw stored
           (outside_set (16 + i) new.reference (omega arith) (omega (arith, h))
@@ -90,7 +91,7 @@ loop-i-preserved c =
     let e : to_z w16 (of_z w16 v) ≡ v = to_z-of_z f in
     let same : input_at a.octets.now a.limits.now a.deltas.now l.values i ≡ old i = inv.1.low i
     (omega (arith, more)) h in
-    let seen = ap₂ (λ (y : ℤ) (m : AnalogueInput). still y m) e (c.input_at-seen.ensures ∙ same) in
+    let seen = ap₂ (λ (y : ℤ) (m : AnalogueInput). still y m) e (c.input_at.ensures ∙ same) in
     let q : still v (old i) ≡ true = sym seen ∙ sym c.is_still.ensures ∙ c.if-not-is_still.false in (
       omega arith,
       backward_stay _ _ _ _ l.i inv.1 more inv.0 (channel-stays a.on xs old i q),

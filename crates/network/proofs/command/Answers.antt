@@ -1,6 +1,5 @@
 -- command: refused, for another node, reset node, or obeyed.
 -- Assumes nothing.
-use mathlib.Core.Path.{sym, ◌∙◌}
 use Rattle.store.proofs.CallLaws.{command_refused, passed, reset, obeyed, obeyed_reset}
 use Rattle.network.proofs.command.Goals as goal
 
@@ -10,22 +9,17 @@ returns-in_err-command c =
     command_refused c.from_residual.result e.field-0.0 c.from_residual.ensures.1 _ _ _ e.ensures.numbered
 
 pub returns-then-not-is_addressed : goal.returns-then-not-is_addressed
-returns-then-not-is_addressed c =
-    passed _ _ _ _ c.in_ok-command.ensures (rw c.node-was.ensures at (sym c.is_addressed.ensures ∙ c.if-not-is_addressed.true))
+returns-then-not-is_addressed c = passed _ _ _ _ c.in_ok-command.ensures (cc)
 
 pub returns-in-ResetNode : goal.returns-in-ResetNode
-returns-in-ResetNode c =
-    let here = rw c.node-was.ensures at (sym c.is_addressed.ensures ∙ c.if-not-is_addressed.false) in
-    reset _ _ _ _ c.in_ok-command.ensures here _ c.in-ResetNode.is (rw c.node-was.ensures at c.set_fresh.ensures)
+returns-in-ResetNode c = reset _ _ _ _ c.in_ok-command.ensures (cc) _ c.in-ResetNode.is (rw c.node-was.ensures at c.set_fresh.ensures)
 
 pub returns-in-ResetCommunication : goal.returns-in-ResetCommunication
 returns-in-ResetCommunication c =
-    let here = rw c.node-was.ensures at (sym c.is_addressed.ensures ∙ c.if-not-is_addressed.false) in
-    obeyed_reset _ _ _ _ c.in_ok-command.ensures here _ (rw c.node-was.ensures at c.obeyed-new.ensures) _ c.in-ResetCommunication.is
+    obeyed_reset _ _ _ _ c.in_ok-command.ensures (cc) _ (cc) _ c.in-ResetCommunication.is
     c.empty_received.ensures c.enter.ensures c.empty_transmitted.ensures
 
 pub returns-in_default : goal.returns-in_default
 returns-in_default c =
-    let here = rw c.node-was.ensures at (sym c.is_addressed.ensures ∙ c.if-not-is_addressed.false) in
-    obeyed _ _ _ _ c.in_ok-command.ensures here _ (rw c.node-was.ensures at c.obeyed-new.ensures) _ c.in_default.not-ResetNode
+    obeyed _ _ _ _ c.in_ok-command.ensures (cc) _ (cc) _ c.in_default.not-ResetNode
     c.in_default.not-ResetCommunication c.enter-in_default.ensures

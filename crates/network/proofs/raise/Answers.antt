@@ -4,4 +4,4 @@ use Rattle.store.proofs.CallLaws.{raised}
 use Rattle.network.proofs.raise.Goals as goal
 
 pub returns-clause-call : goal.returns-clause-call
-returns-clause-call c = raised _ _ _ _ c.enter.ensures (rw c.node.ensures at c.raised-new.ensures)
+returns-clause-call c = raised _ _ _ (rw (c.raised-new.ensures, c.node.ensures) at c.enter.ensures)

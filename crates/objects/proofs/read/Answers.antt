@@ -11,15 +11,13 @@ use Rattle.objects.proofs.AccessLaws.{read_stopped, read_absent, readable_at, re
 use Rattle.objects.proofs.read.Goals as goal
 
 pub returns-then-is_stopped-clause-call : goal.returns-then-is_stopped-clause-call
-returns-then-is_stopped-clause-call c =
-    read_stopped c.args.store.now c.args.index c.args.sub (sym (rw c.node.ensures at c.is_stopped.ensures) ∙ c.if-is_stopped.true)
+returns-then-is_stopped-clause-call c = read_stopped c.args.store.now c.args.index c.args.sub (cc)
 
 pub returns-in_err-entry-clause-call : goal.returns-in_err-entry-clause-call
 returns-in_err-entry-clause-call c =
     let why : c.from_residual.result ≡ Err c.in_err-entry.field-0.0 = search rules in
     rw why
-    (read_absent c.args.store.now c.args.index c.args.sub (sym (rw c.node.ensures at c.is_stopped.ensures) ∙ c.if-is_stopped.false)
-    c.in_err-entry.field-0.0 c.in_err-entry.ensures)
+    (read_absent c.args.store.now c.args.index c.args.sub (cc) c.in_err-entry.field-0.0 c.in_err-entry.ensures)
 
 pub value_at-value-requires : goal.value_at-value-requires
 value_at-value-requires c = readable_at c.args.index c.args.sub _ c.in_ok-entry.ensures
