@@ -4,7 +4,7 @@
 ghost use Rattle.std.specs.Prelude.{◌≡◌, ◌++◌};
 ghost use Rattle.profile.specs.Answers.{read_answer, sample_answer, buffer_answer};
 ghost use Rattle.profile.specs.Entries.{home_of};
-ghost use Rattle.profile.specs.Numbers.{refusal_number, number_answered};
+ghost use Rattle.profile.specs.Numbers.{number_answered};
 ghost use Rattle.words.specs.Ascii.{ascii};
 ghost use Rattle.words.specs.Buffers.{put};
 ghost use Rattle.texts.specs.Texts.{bytes_text, decimal_text};
@@ -25,33 +25,25 @@ use words::items::first_items;
 // The tables of words.
 pub mod tables;
 
+// The numbers of the papers are below 10, abort codes far above.
+#[tactic(auto, unfolding(crate::specs::Answers::number_text))]
+pub fn put_number<B: Buffer<u8>>(out: &mut B, number: u32)
+    ensures { B.held out.new ≡ put B.most (B.held out.old) (number_text number) }
+{
+    if number < 10 {
+        return put_decimal(out, u64::from(number));
+    }
+    put_long_hex(out, number);
+}
+
 // The number of a refusal, 0 where the call is accepted.
 fn put_outcome<B: Buffer<u8>, T: Drop>(out: &mut B, answer: &Result<T, Refusal>)
     ensures { B.held out.new ≡ put B.most (B.held out.old) (number_text (number_answered answer.now)) }
 {
     match answer {
-        Ok(_) => put_accepted(out),
-        Err(refusal) => put_refusal(out, *refusal),
+        Ok(_) => put_number(out, 0),
+        Err(refusal) => put_number(out, refusal.number()),
     }
-}
-
-#[tactic(auto, unfolding(crate::specs::Answers::number_text, texts::specs::Texts::decimal_text))]
-fn put_accepted<B: Buffer<u8>>(out: &mut B)
-    ensures { B.held out.new ≡ put B.most (B.held out.old) (number_text 0) }
-{
-    out.put(b'0');
-}
-
-// The numbers of the papers are below 10, abort codes far above.
-#[tactic(auto, unfolding(crate::specs::Answers::number_text))]
-fn put_refusal<B: Buffer<u8>>(out: &mut B, refusal: Refusal)
-    ensures { B.held out.new ≡ put B.most (B.held out.old) (number_text (refusal_number refusal)) }
-{
-    let number = refusal.number();
-    if number < 10 {
-        return put_decimal(out, u64::from(number));
-    }
-    put_long_hex(out, number);
 }
 
 // A call that answers its number alone.
@@ -118,12 +110,17 @@ pub fn put_drive<B: Buffer<u8>>(
     end(out, &answer);
 }
 
-// A receive, in a node that is operational or not, by a frame that is as long as its mapping or not; it is never refused.
+// A receive, in a node that is operational or not, by a frame that is as long as its mapping or not.
 #[tactic(auto, using(words::proofs::BufferLaws::puts), unfolding(crate::specs::Answers::receive_line))]
-pub fn put_receive<B: Buffer<u8>>(out: &mut B, active: bool, long: bool)
-    ensures { B.held out.new ≡ put B.most (B.held out.old) (receive_line 0 active long) }
+pub fn put_receive<B: Buffer<u8>>(
+    out: &mut B,
+    answer: Result<(), Refusal>,
+    active: bool,
+    long: bool,
+)
+    ensures { B.held out.new ≡ put B.most (B.held out.old) (receive_line (number_answered answer) active long) }
 {
-    put_accepted(out);
+    put_outcome(out, &answer);
     out.put_all(receive_end(active, long));
 }
 

@@ -35,7 +35,7 @@ pub fn command(store: &mut Store, code: u8, to: u8) -> Result<(), Refusal>
     if !is_addressed(was, to) {
         return Ok(());
     }
-    let new = obeyed(was, command);
+    let new = obeyed(was, code);
     match command {
         Command::ResetNode => store.set_fresh(was.number),
         Command::ResetCommunication => {

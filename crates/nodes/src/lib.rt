@@ -93,8 +93,19 @@ pub fn is_addressed(node: Node, to: u8) -> bool
     (to == 0) | (to == node.number)
 }
 
+// The node after the command of a code; any other code leaves it.
 #[tactic(auto, unfolding(profile::specs::Nodes::obey_node))]
-pub fn obeyed(node: Node, command: Command) -> Node
+pub fn obeyed(node: Node, code: u8) -> Node
+    ensures { result ≡ obey_node code node }
+{
+    match Command::try_from(code) {
+        Ok(command) => commanded(node, command),
+        Err(_) => node,
+    }
+}
+
+#[tactic(auto, unfolding(profile::specs::Nodes::obey_node))]
+fn commanded(node: Node, command: Command) -> Node
     ensures { result ≡ obey_node (command_code command) node }
 {
     let state = match command {

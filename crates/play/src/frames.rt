@@ -17,7 +17,7 @@ impl Session {
         let active = self.device.is_active();
         let long = self.device.is_long(message, frame.len());
         let got = self.device.receive(message, frame);
-        put_receive(&mut self.out, active, long);
+        put_receive(&mut self.out, got.answer, active, long);
         self.count(got);
     }
 

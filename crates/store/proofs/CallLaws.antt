@@ -119,12 +119,12 @@ module _ (d : Store) (code to : ℕ) where
           taken d e _ _ refl (ap not here) (λ n. f.normal)
           (reset_outcome (parts_of d) (parts_of e) code to taken_code here (sym c.named ∙ ap command_code q) f.machines)
 
-      module _ (n : Node) (m : n ≡ obey_node (command_code k) (node_at d.octets d.flags)) where
+      module _ (n : Node) (m : n ≡ obey_node code (node_at d.octets d.flags)) where
         obeyed_by : (e : Store) (b : Bool) → (code ≡ 129 → ⊥) → eqb code 130 ≡ b → Stepped d e (moved n b (parts_of d))
             → Ensured d (direct (command code to)) (plain 0) e
         obeyed_by e b ne t s =
             taken d e _ _ refl (ap not here) s.normal
-            (obeyed_outcome (parts_of d) (parts_of e) code to taken_code here ne (rw (m, c.named, sym t) at s.machines))
+            (obeyed_outcome (parts_of d) (parts_of e) code to taken_code here ne (rw (m, sym t) at s.machines))
 
         pub obeyed : (e : Store) → (k ≡ ResetNode → ⊥) → (k ≡ ResetCommunication → ⊥) → Entered n d e
             → Ensured d (direct (command code to)) (plain 0) e
