@@ -1,16 +1,15 @@
 -- The bytes of a list: held as lines, which are played when they end, and the room that is left in the output block.
 -- Assumes nothing.
-use Rattle.std.proofs.Common.{◌≡◌, ℕ, ◌<◌, ◌≤◌, Bool, true, false, cond, eqb, ltb, List, [], length, sym, subst, arith, refl}
-use Rattle.std.proofs.Common.{ltb-true, eq-eqb, ne_eqb}
+use Rattle.std.proofs.Common.{◌≡◌, ℕ, ◌≤◌, Bool, true, false, eqb, ltb, length, ap, subst, arith, ltb-true, eq-eqb, ne_eqb, refl, sym}
 use Rattle.play.specs.declared.session.Session.{Session}
-use Rattle.play.specs.Sessions.{full, emptied, Took}
+use Rattle.play.specs.Sessions.{full, MadeRoom, Took}
 
-emptied_room : (out : List ℕ) → length (emptied out) ≤ full
-emptied_room out = at (ltb (length out) full) (ltb-true (length out) full)
-  where
-    at : (t : Bool) → (t ≡ true → length out < full) → length (cond t out []) ≤ full
-    at true h = omega (arith, h refl)
-    at false h = omega arith
+-- once room was made there is room
+made_room : (before after : Session) (t : Bool) → ltb (length before.out.items) full ≡ t → MadeRoom t before after
+    → length after.out.items ≤ full
+made_room before after true h m =
+    subst (λ (s : Session). length s.out.items ≤ full) (sym m) (omega (arith, ltb-true (length before.out.items) full h))
+made_room before after false h m = omega (arith, ap length m.out)
 
 -- a byte that ends the line, and one that is held
 module _ (before : Session) (byte : ℕ) (after : Session) where
@@ -22,5 +21,5 @@ module _ (before : Session) (byte : ℕ) (after : Session) where
 
   -- either way an answer has room
   pub took_room : (b : Bool) → length before.out.items ≤ full → Took b before byte after → length after.out.items ≤ full
-  took_room true h t = subst (λ (l : List ℕ). length l ≤ full) (sym t.written.out) (emptied_room t.between.out.items)
+  took_room true h t = made_room t.between after (ltb (length t.between.out.items) full) refl t.written
   took_room false h t = subst (λ (s : Session). length s.out.items ≤ full) (sym t) h

@@ -43,34 +43,10 @@ remembered before from out held o h k some p =
 
 -- a session that compared
 abbrev with_met : Session → ℕ → Session
-with_met s n = record {
-  device = s.device;
-  calls = s.calls;
-  refused = s.refused;
-  unknown = s.unknown;
-  lines = s.lines;
-  met = n;
-  unmet = s.unmet;
-  line = s.line;
-  answer = s.answer;
-  out = s.out;
-  progress = s.progress;
-}
+with_met s n = record s { met = n }
 
 abbrev with_unmet : Session → ℕ → ArrayVec ℕ → Session
-with_unmet s n out = record {
-  device = s.device;
-  calls = s.calls;
-  refused = s.refused;
-  unknown = s.unknown;
-  lines = s.lines;
-  met = s.met;
-  unmet = n;
-  line = s.line;
-  answer = s.answer;
-  out = out;
-  progress = s.progress;
-}
+with_unmet s n out = record s { unmet = n; out = out }
 
 -- a call, or a line that is none: its answer is held
 pub answered_call : (before played after : Session) (m : Meaning) → PlayedWhole before m played

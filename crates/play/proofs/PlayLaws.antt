@@ -1,6 +1,6 @@
 -- A call that was answered and counted was played.
 -- Assumes nothing.
-use Rattle.std.proofs.Common.{◌≡◌, ℕ, ◌≤◌, not, eqb, List, [], ◌∷◌, ◌++◌, length, take, drop, ℤ, sym, refl, ap, ◌∙◌, subst, arith}
+use Rattle.std.proofs.Common.{◌≡◌, ℕ, ◌≤◌, not, eqb, List, length, drop, take_at, ℤ, sym, refl, ap, ◌∙◌, subst, arith}
 use Rattle.std.proofs.Common.{Result, Ok, Err}
 use Rattle.std.specs.List.{refill}
 use Rattle.arrayvec.specs.ArrayVec.{ArrayVec}
@@ -26,18 +26,10 @@ use Rattle.play.specs.declared.session.Session.{Session}
 use Rattle.play.specs.Playing.{answer_for, answer_line}
 use Rattle.play.specs.Sessions.{counted, full, Aside, Counted, Played, PlayedWhole}
 
--- a list in front of another
-pub front_is : {A : Type 0} (n : ℕ) (left rest : List A) → length left ≡ n → take n (left ++ rest) ≡ left
-front_is {A = A} n left rest e = ap (λ k. take k (left ++ rest)) (sym e) ∙ at left
-  where
-    at : (l : List A) → take (length l) (l ++ rest) ≡ l
-    at [] = refl
-    at (x ∷ l) = ap (λ (m : List A). x ∷ m) (at l)
-
 -- what a call left in a buffer's elements is what the buffer holds
 pub lent_back : {A : Type 0} (held lent left shown : List A) → lent ≡ held → length left ≡ length lent
     → shown ≡ refill (length held) held left → shown ≡ left
-lent_back held lent left shown e k s = s ∙ front_is (length held) left (drop (length left) held) (k ∙ ap length e)
+lent_back held lent left shown e k s = s ∙ take_at left (drop (length left) held) (length held) (k ∙ ap length e)
 
 -- the number of a call's answer is that of its reply
 pub read_number : (a : Result ReadValue Refusal) → number_answered a ≡ (read_answer a).number
@@ -76,19 +68,7 @@ buffer_shown (Err r) shown = refl
 
 -- the session with other output
 abbrev pub with_out : Session → ArrayVec ℕ → Session
-with_out s out = record {
-  device = s.device;
-  calls = s.calls;
-  refused = s.refused;
-  unknown = s.unknown;
-  lines = s.lines;
-  met = s.met;
-  unmet = s.unmet;
-  line = s.line;
-  answer = s.answer;
-  out = out;
-  progress = s.progress;
-}
+with_out s out = record s { out = out }
 
 pub same_aside : (s : Session) → Aside s s
 same_aside s = record { lines = refl; line = refl; answer = refl; met = refl; unmet = refl; progress = refl }

@@ -83,19 +83,7 @@ pub record PlayedWhole (before : Session) (m : Meaning) (after : Session) : Type
 
 -- the session with another last answer
 abbrev pub with_answer : Session → List ℕ → Session
-with_answer s answer = record {
-  device = s.device;
-  calls = s.calls;
-  refused = s.refused;
-  unknown = s.unknown;
-  lines = s.lines;
-  met = s.met;
-  unmet = s.unmet;
-  line = s.line;
-  answer = record { items = answer };
-  out = s.out;
-  progress = s.progress;
-}
+with_answer s answer = record s { answer = record { items = answer } }
 
 -- what was put into the block from a place on is held, if it is any, and nothing else changed
 abbrev pub Remembered : Session → ℕ → Session → Type 0
@@ -116,13 +104,9 @@ pub record Answered (before : Session) (l : Line) (after : Session) : Type 0 whe
   pub line : after.line ≡ before.line
   pub progress : after.progress ≡ before.progress
 
--- the output once it was written out where the longest answer had no room any more
-abbrev pub emptied : List ℕ → List ℕ
-emptied out = cond (nat_lt (length out) full) out []
-
--- the output may have been written out; what an answer can show stays
-pub record WrittenOut (left : List ℕ) (before after : Session) : Type 0 where
-  pub out : after.out.items ≡ left
+-- the output was written out, or that failed; what an answer can show stays
+pub record WrittenOut (before after : Session) : Type 0 where
+  pub out : after.out.items ≡ []
   pub device : after.device ≡ before.device
   pub calls : after.calls ≡ before.calls
   pub refused : after.refused ≡ before.refused
@@ -132,22 +116,17 @@ pub record WrittenOut (left : List ℕ) (before after : Session) : Type 0 where
   pub unmet : after.unmet ≡ before.unmet
   pub line : after.line ≡ before.line
   pub answer : after.answer ≡ before.answer
+  -- the list goes on as before, unless the output failed
+  pub progress : (after.progress ≡ Failed → ⊥) → after.progress ≡ before.progress
+
+-- the output is written out where the longest answer has no room any more
+abbrev pub MadeRoom : Bool → Session → Session → Type 0
+MadeRoom true before after = after ≡ before
+MadeRoom false before after = WrittenOut before after
 
 -- the session with another number of lines, and another line that is held
 abbrev pub with_line : Session → ℕ → List ℕ → Session
-with_line s lines line = record {
-  device = s.device;
-  calls = s.calls;
-  refused = s.refused;
-  unknown = s.unknown;
-  lines = lines;
-  met = s.met;
-  unmet = s.unmet;
-  line = record { items = line };
-  answer = s.answer;
-  out = s.out;
-  progress = s.progress;
-}
+with_line s lines line = record s { lines = lines; line = record { items = line } }
 
 -- a line begins: it is the next one, and no byte of the one after it is held
 abbrev pub begun : Session → Session
@@ -161,7 +140,7 @@ held_line s = line_of (without_mark (counted true s.lines) s.line.items)
 pub record LinePlayed (before : Session) (l : Line) (after : Session) : Type 0 where
   pub between : Session
   pub answered : Answered (begun before) l between
-  pub written : WrittenOut (emptied between.out.items) between after
+  pub written : MadeRoom (nat_lt (length between.out.items) full) between after
 
 -- ---- a byte
 
@@ -187,16 +166,4 @@ PlayedLast false before after = LinePlayed before (held_line before) after
 
 -- the session ended: its input is over, or it failed
 abbrev pub ended_as : Session → Progress → Session
-ended_as s progress = record {
-  device = s.device;
-  calls = s.calls;
-  refused = s.refused;
-  unknown = s.unknown;
-  lines = s.lines;
-  met = s.met;
-  unmet = s.unmet;
-  line = s.line;
-  answer = s.answer;
-  out = s.out;
-  progress = progress;
-}
+ended_as s progress = record s { progress = progress }

@@ -29,6 +29,7 @@ pub fn sample(
     ensures kept { store.new ≡ with_sampled store.new.octets store.new.words store.new.values store.old }
 {
     check_sample(digital.len(), analogue.len(), events.len())?;
+    // Their lengths were tested.
     let digital = digital.as_array().unwrap();
     let analogue = analogue.as_array().unwrap();
     let events = events.as_mut_array().unwrap();
@@ -52,6 +53,7 @@ pub fn drive(store: &Store, lines: &mut [u8], channels: &mut [i16]) -> Result<()
     ensures { Ensured store.now (direct (Plain.drive lines.old channels.old)) (drive_answer result lines.new channels.new) store.now }
 {
     check_drive(lines.len(), channels.len())?;
+    // Their lengths were tested.
     let lines = lines.as_mut_array().unwrap();
     let channels = channels.as_mut_array().unwrap();
     machines::drive(&store.words, lines);

@@ -28,6 +28,7 @@ pub fn request(store: &mut Store, frame: &[u8], reply: &mut [u8]) -> Result<usiz
     if is_stopped(store.node()) {
         return Ok(0);
     }
+    // Their lengths were tested.
     let frame = frame.as_array().unwrap();
     let reply = reply.as_mut_array().unwrap();
     Ok(serve(store, frame, reply))

@@ -113,9 +113,10 @@ module _ (d : Store) (code to : ℕ) where
     passed elsewhere = left_alone d _ _ (other_outcome (parts_of d) code to taken_code elsewhere)
 
     module _ (here : addressed to (node_at d.octets d.flags) ≡ true) where
-      pub reset : (e : Store) → k ≡ ResetNode → FreshLeft (node_at d.octets d.flags).number e
+      pub reset : (e : Store) (number : ℕ) → number ≡ (node_at d.octets d.flags).number → k ≡ ResetNode → FreshLeft number e
           → Ensured d (direct (command code to)) (plain 0) e
-      reset e q f =
+      reset e number is q left =
+          let f = rw is at left in
           taken d e _ _ refl (ap not here) (λ n. f.normal)
           (reset_outcome (parts_of d) (parts_of e) code to taken_code here (sym c.named ∙ ap command_code q) f.machines)
 

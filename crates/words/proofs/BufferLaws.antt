@@ -5,14 +5,10 @@ use mathlib.Core.List.{List, [], ◌∷◌, ◌++◌, append-nil, append_assoc}
 use Prim.Native.Nat.{ℕ, zero, suc, ◌+◌, ◌-◌, ◌≤◌}
 use native.Mathlib.Omega.{arith}
 use lib.ListN.{length, take, length-append}
-use lib.Seq.{take_all}
+use lib.Seq.{take_all, take-nil}
 use Rattle.words.specs.Buffers.{put}
 
 module _ {A : Type 0} where
-  take_none : (k : ℕ) → take {A = A} k [] ≡ []
-  take_none zero = refl
-  take_none (suc k) = refl
-
   -- what there is room for of two lists, one behind the other
   take_both : (k : ℕ) (xs ys : List A) → take k xs ++ take (k - length (take k xs)) ys ≡ take k (xs ++ ys)
   take_both zero xs ys = refl
@@ -24,7 +20,7 @@ module _ {A : Type 0} where
   module _ (n : ℕ) (held : List A) where
     pub put_none : put n held [] ≡ held
     unfolding put
-    put_none = ap (λ (l : List A). held ++ l) (take_none (n - length held)) ∙ append-nil held
+    put_none = ap (λ (l : List A). held ++ l) (take-nil (n - length held)) ∙ append-nil held
 
     pub put_then : (xs ys : List A) → put n (put n held xs) ys ≡ put n held (xs ++ ys)
     unfolding put

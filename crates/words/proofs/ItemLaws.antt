@@ -2,7 +2,7 @@
 -- Assumes nothing.
 use mathlib.Core.Path.{◌≡◌, refl, sym, ap, ◌∙◌}
 use mathlib.Core.Bool.{Bool, true, false, ◌||◌}
-use mathlib.Core.List.{List, [], ◌∷◌, ◌++◌, append-nil, append_assoc}
+use mathlib.Core.List.{List, [], ◌∷◌, ◌++◌, append_assoc}
 use Prim.Native.Nat.{ℕ, zero, suc, ◌+◌, ◌-◌, ◌≤◌}
 use native.Mathlib.Omega.{arith}
 use lib.Dec.{eqb}
@@ -16,7 +16,7 @@ use Rattle.words.specs.declared.Expected.{Expected}
 use Rattle.words.specs.declared.Expected.TheVariants as Ex
 use Rattle.words.specs.Buffers.{put}
 use Rattle.words.specs.Words.{run, spaces, words_of, word_end, first_word, after_word, is_word}
-use Rattle.words.specs.Items.{Item, Found, slash, is_over, read_as, with_item, items_of, InBuffer}
+use Rattle.words.specs.Items.{Item, Found, slash, is_over, read_as, with_item, items_of}
 use Rattle.words.specs.Items.Found.{items, missing}
 use Rattle.words.proofs.RunLaws.{run_within}
 use Rattle.words.proofs.SplitLaws.{words_none, words_more}

@@ -1,5 +1,6 @@
 -- command: refused, for another node, reset node, or obeyed.
 -- Assumes nothing.
+use mathlib.Core.Path.{ap}
 use Rattle.store.proofs.CallLaws.{command_refused, passed, reset, obeyed, obeyed_reset}
 use Rattle.network.proofs.command.Goals as goal
 
@@ -12,7 +13,8 @@ pub returns-then-not-is_addressed : goal.returns-then-not-is_addressed
 returns-then-not-is_addressed c = passed _ _ _ _ c.in_ok-command.ensures (cc)
 
 pub returns-in-ResetNode : goal.returns-in-ResetNode
-returns-in-ResetNode c = reset _ _ _ _ c.in_ok-command.ensures (cc) _ c.in-ResetNode.is (rw c.node-was.ensures at c.set_fresh.ensures)
+returns-in-ResetNode c =
+    reset _ _ _ _ c.in_ok-command.ensures (cc) _ _ (ap (λ n. n.number) c.node-was.ensures) c.in-ResetNode.is c.set_fresh.ensures
 
 pub returns-in-ResetCommunication : goal.returns-in-ResetCommunication
 returns-in-ResetCommunication c =
