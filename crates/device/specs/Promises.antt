@@ -1,8 +1,8 @@
 -- What the methods promise: what the calls in place promise of the device's arrays.
 -- Assumes nothing.
-use Rattle.std.specs.Prelude.{ℕ, get_or, Result}
-use Rattle.std.specs.Int.{w8, w64}
-use Rattle.std.proofs.Common.{Fits}
+use Rattle.std.specs.Prelude.{ℕ, get_or, Result, pos}
+use Rattle.std.specs.Int.{w8, w16, w32, w64}
+use Rattle.std.proofs.Common.{Fits, SFits}
 use Rattle.profile.specs.declared.refusals.Refusal.{Refusal}
 use Rattle.profile.specs.Numbers.{number_answered}
 use Rattle.profile.specs.Calls.{Call, Reply}
@@ -25,3 +25,6 @@ pub record Allowed (d : Device) : Type 0 where
   pub sized : Sized d.store
   pub each_octet : (n : ℕ) → Fits w8 (get_or d.store.octets n 0)
   pub each_word : (n : ℕ) → Fits w64 (get_or d.store.words n 0)
+  pub each_limit : (n : ℕ) → SFits w32 (get_or d.store.limits n (pos 0))
+  pub each_delta : (n : ℕ) → Fits w32 (get_or d.store.deltas n 0)
+  pub each_value : (n : ℕ) → SFits w16 (get_or d.store.values n (pos 0))

@@ -17,7 +17,7 @@ use Rattle.profile.specs.Calls.{Plain, write, transmit}
 use Rattle.profile.specs.Refusals.{transmit_refusal}
 use Rattle.profile.specs.Heard.{Machines, number_of, in_force, frame_writes, step_each}
 use Rattle.profile.specs.Machines.{step}
-use Rattle.profile.specs.Replies.{read_value, frame_of, sends, transmit_reply, unchanged, answer_to, refuse_to, reply}
+use Rattle.profile.specs.Replies.{read_value, frame_of, sends, count_reply, unchanged, answer_to, refuse_to, reply}
 use Rattle.profile.proofs.AnswerLaws.{nonzero}
 use Rattle.profile.proofs.ListTheorem.{fold_append, same_trans}
 use Rattle.profile.proofs.MappedLaws.{moved_none}
@@ -83,9 +83,9 @@ pub replied : (ms : Machines) (message : Message) (frame : List ℕ)
     → reply ms (transmit message frame)
     ≡ cond (eqb (transmit_refusal (length frame)) 0)
     (cond (sends ms (transmitted message))
-    (transmit_reply (total (transmitted message) (in_force ms (transmitted message)))
+    (count_reply (total (transmitted message) (in_force ms (transmitted message)))
     (frame_of ms (transmitted message) (in_force ms (transmitted message)) frame))
-    (transmit_reply 0 frame))
+    (count_reply 0 frame))
     (unchanged (transmit_refusal (length frame)) frame [])
 unfolding reply number_of answer_to refuse_to
 replied ms message frame = refl

@@ -9,13 +9,21 @@ use lib.Dec.{eqb}
 use lib.ListN.{length, take}
 use lib.Seq.{take_at}
 use borrow.Author.Tests.{eq-eqb, ne_eqb}
-use Rattle.profile.specs.Bits.{bit_at}
-use Rattle.profile.specs.Entries.{entry_of}
-use Rattle.profile.specs.Calls.{read, write}
+use Rattle.profile.specs.Bits.{bit_at, gather}
+use Rattle.profile.specs.Entries.{object_of, entry_of}
+use Rattle.profile.specs.declared.Home.TheVariants.{Sources}
+use Rattle.profile.specs.Nodes.{stopped}
+use Rattle.profile.specs.Calls.{read, write, direct}
+use Rattle.profile.specs.Refusals.{refusal, read_refusal}
+use Rattle.profile.specs.Machines.{Kind, node_alone, analogue_input, Machine, step}
+use Rattle.profile.specs.Heard.{Machines, number_of}
+use Rattle.profile.specs.Replies.{read_value, read_reply, count_reply, reply}
 use Rattle.profile.specs.Server.{command_of, unused_of, is_expedited, tells_size, first_byte, told_size}
-use Rattle.profile.specs.Server.{index_in, data_in, size_in, asked}
-use Rattle.profile.specs.ServerClaims.{framed, AskedBy, AbortsBy, ReplyBytes}
-use Rattle.profile.proofs.ServerLaws.{upload_asks, download_asks, unknown_asks}
+use Rattle.profile.specs.Server.{index_in, data_in, size_in, asks_upload, asked, encoded}
+use Rattle.profile.specs.ServerClaims.{framed, AskedBy, AbortsBy, ReplyBytes, SourcesUploaded}
+use Rattle.profile.proofs.StepLaws.{read_step}
+use Rattle.profile.proofs.ReadLaws.{read_replies}
+use Rattle.profile.proofs.ServerLaws.{upload_asks, download_asks, unknown_asks, as_plain}
 
 -- ---- the fields of a first byte, by its number
 
@@ -118,3 +126,34 @@ pub reply_bytes : (first index sub v : ℕ) (rest : List ℕ) → ReplyBytes fir
 unfolding first_byte
 reply_bytes first index sub v rest =
     record { uploaded_1 = refl; uploaded_2 = refl; uploaded_4 = refl; downloaded = refl; aborted = refl }
+
+-- ---- an upload of 6422:1
+
+sources_read : (ms : Machines) → stopped (ms node_alone 0).node ≡ false
+    → reply ms (direct (read 0x6422 1)) ≡ read_reply (gather 16 (λ n. (ms analogue_input n).own.source)) 4
+unfolding number_of refusal read_refusal read_value entry_of object_of
+sources_read ms running = read_replies ms 0x6422 1 (rw running refl)
+
+sources_cleared : (n : ℕ) (m : Machine analogue_input) → stopped m.node ≡ false
+    → (step analogue_input n (read 0x6422 1) m).own.source ≡ false
+unfolding refusal read_refusal entry_of object_of
+sources_cleared n m running =
+    ap (λ (x : Machine analogue_input). x.own.source) (read_step analogue_input n 0x6422 1 Sources m refl (λ h. rw running refl))
+
+-- "An accepted read of 6422:1 answers the bits, then clears them all.": so does an upload, where every machine knows a node not stopped
+pub sources_uploaded : (ms : Machines) → ((k : Kind) (i : ℕ) → stopped (ms k i).node ≡ false) → (first : ℕ) (rest buffer : List ℕ)
+    → 0x40 ≤ first → first < 0x60 → length rest ≡ 4 → length buffer ≡ 8 → SourcesUploaded ms (framed first 0x6422 1 rest) buffer
+unfolding encoded
+sources_uploaded ms running first rest buffer h l k b =
+    let frame = framed first 0x6422 1 rest in
+    let asks = (asked_by 0x6422 1).upload first rest h l in
+    let uploads : asks_upload frame ≡ true =
+    ap (λ (x : ℕ). eqb x 2) (command_is 2 first h (omega arith) (omega arith)) in
+    let same = as_plain ms frame buffer (read 0x6422 1) (omega (arith, k)) b (running node_alone 0) asks in
+    record {
+      sent = same.sent ∙ rw (sources_read ms (running node_alone 0), uploads)
+          (ap (λ (f : List ℕ). count_reply 8 f) (reply_bytes first 0x6422 1 (gather 16 (λ n. (ms analogue_input n).own.source)) rest).uploaded_4);
+      cleared = λ n.
+          ap (λ (x : Machines). (x analogue_input n).own.source) same.machines
+          ∙ sources_cleared n (ms analogue_input n) (running analogue_input n);
+    }

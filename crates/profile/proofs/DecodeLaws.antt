@@ -16,10 +16,10 @@ use Rattle.profile.specs.Calls.{Reply}
 use Rattle.profile.specs.Server.{command_of, unused_of, is_expedited, tells_size, first_byte, entry_bytes, asks_upload}
 use Rattle.profile.specs.Server.{reply_data, reply_frame, download_reply, upload_reply, abort_reply, encoded}
 use Rattle.profile.specs.Replies.{plain, read_reply}
-use Rattle.profile.specs.ServerClaims.{FieldsBack, decoded}
+use Rattle.profile.specs.ServerClaims.{FieldsBack, decoded, ReadFits}
 use Rattle.profile.proofs.BoolLaws.{picked}
 use Rattle.profile.proofs.MessageLaws.{bytes_of_length}
-use Rattle.profile.proofs.ReadLaws.{one_bit, ReadFits}
+use Rattle.profile.proofs.ReadLaws.{one_bit}
 
 -- ---- the first byte
 

@@ -45,7 +45,7 @@ pub record SoundMapping (m : ℕ) (o : Mapping) : Type 0 where
 -- ---- "empty when fresh"
 
 -- an entry of a list of zeros, or past it
-pub zeros : (k n : ℕ) → ◌≡◌ {A = ℕ} (get_or (replicate k 0) n 0) 0
+zeros : (k n : ℕ) → ◌≡◌ {A = ℕ} (get_or (replicate k 0) n 0) 0
 zeros zero n = refl
 zeros (suc k) zero = refl
 zeros (suc k) (suc n) = zeros k n
@@ -57,7 +57,7 @@ empty_sound m =
 -- ---- an accepted write
 
 -- what holds of the number that is set and of every entry before holds of every entry after
-pub set_holds : (P : ℕ → Type 0) (xs : List ℕ) (i v : ℕ) → P v → ((n : ℕ) → P (get_or xs n 0)) → (n : ℕ) → P (get_or (set xs i v) n 0)
+set_holds : (P : ℕ → Type 0) (xs : List ℕ) (i v : ℕ) → P v → ((n : ℕ) → P (get_or xs n 0)) → (n : ℕ) → P (get_or (set xs i v) n 0)
 set_holds P [] i v p q n = q n
 set_holds P (x ∷ xs) zero v p q zero = p
 set_holds P (x ∷ xs) zero v p q (suc n) = q (suc n)

@@ -7,24 +7,22 @@ use Prim.Native.Nat.{ℕ, zero, suc, ◌/◌, ◌%◌, ◌^◌, ◌≤◌, ◌<�
 use native.Mathlib.Nat.{mod-lt, zero-lt-suc}
 use native.Mathlib.Omega.{arith}
 use lib.Dec.{eqb, ltb, leb}
-use borrow.Author.Tests.{eqb-true, ltb-true, leb-true}
+use borrow.Author.Tests.{eqb-true, leb-true}
 use Rattle.profile.specs.Entries.{Entry}
 use Rattle.profile.specs.declared.Home.{Home}
 use Rattle.profile.specs.declared.Home.TheVariants.{Constant, Window, InputChannel, OutputChannel, Sources, Device, MappingEntry}
-use Rattle.profile.specs.AnalogueInput.{input_size}
 use Rattle.profile.specs.Entries.{table, width_of, place, at, window, Row, objects, lookup, object_of, entry_of}
 use Rattle.profile.proofs.BoolLaws.{both, picked}
 use Rattle.profile.proofs.LengthLaws.{at_holds}
 
--- a constant fits the bytes of its entry, the bits of a window and of 6422:1 too; so does the highest value of an entry whose number is
--- kept as it was written
+-- a constant fits the bytes of its entry, the bits of a window and of 6422:1 too
 abbrev pub fitting : Entry → Home → Bool
 fitting e (Constant v) = ltb v (256 ^ e.size)
 fitting e (Window row w s) = leb (2 ^ w) (256 ^ e.size)
-fitting e (InputChannel index n) = ltb e.highest (256 ^ input_size index)
+fitting e (InputChannel index n) = true
 fitting e (OutputChannel index n) = true
 fitting e Sources = eqb e.size 4
-fitting e (Device index) = ltb e.highest 256
+fitting e (Device index) = true
 fitting e (MappingEntry m sub) = true
 
 -- the number of an entry that is there, and of one that is not
@@ -44,14 +42,12 @@ pub record SizedEntry (e : Entry) : Type 0 where
   pub absent_is : is_absence e.absent ≡ true
   pub most : e.size ≤ 4
   pub least : e.absent ≡ 0 → 1 ≤ e.size
-  pub top : e.highest < 256 ^ 4
   pub fits : fitting e e.home ≡ true
 
 -- as one test
 abbrev sized : Entry → Bool
 sized e =
-    is_absence e.absent
-    && (leb e.size 4 && ((not (eqb e.absent 0) || leb 1 e.size) && (ltb e.highest (256 ^ 4) && fitting e e.home)))
+    is_absence e.absent && (leb e.size 4 && ((not (eqb e.absent 0) || leb 1 e.size) && fitting e e.home))
 
 abbrev Sized : Entry → Type 0
 Sized e = sized e ≡ true
@@ -61,13 +57,11 @@ sized_entry e p =
     let a = both (is_absence e.absent) _ p in
     let b = both (leb e.size 4) _ a.1 in
     let c = both (not (eqb e.absent 0) || leb 1 e.size) _ b.1 in
-    let d = both (ltb e.highest (256 ^ 4)) _ c.1 in
     record {
       absent_is = a.0;
       most = leb-true e.size 4 b.0;
       least = λ z. leb-true 1 e.size (rw z at c.0);
-      top = ltb-true e.highest (256 ^ 4) d.0;
-      fits = d.1;
+      fits = c.1;
     }
 
 -- ---- the digital lines, of every width

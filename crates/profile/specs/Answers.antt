@@ -7,7 +7,7 @@ use Rattle.profile.specs.declared.refusals.Refusal.{Refusal}
 use Rattle.profile.specs.Numbers.{refusal_number, number_answered}
 use Rattle.profile.specs.Entries.{Entry, absent_entry}
 use Rattle.profile.specs.Calls.{Reply}
-use Rattle.profile.specs.Replies.{plain, read_reply, sample_reply, drive_reply, transmit_reply, unchanged}
+use Rattle.profile.specs.Replies.{plain, read_reply, sample_reply, drive_reply, count_reply, unchanged}
 
 -- an entry that there is
 abbrev pub present : code.Entry → Entry
@@ -47,5 +47,5 @@ drive_answer (Err r) lines channels = unchanged (refusal_number r) lines channel
 
 -- how many bytes a transmit or a request wrote, with its buffer as it is afterwards
 abbrev pub buffer_answer : Result ℕ Refusal → List ℕ → Reply
-buffer_answer (Ok count) bytes = transmit_reply count bytes
+buffer_answer (Ok count) bytes = count_reply count bytes
 buffer_answer (Err r) bytes = unchanged (refusal_number r) bytes []

@@ -23,7 +23,7 @@ is_expedited first = bit_at first 1
 unfoldable pub tells_size : ℕ → Bool
 tells_size first = bit_at first 0
 
--- the byte of these four, its reserved bit 0
+-- the byte of these four; its reserved bit, bit 4, is 0
 unfoldable pub first_byte : ℕ → ℕ → Bool → Bool → ℕ
 first_byte command unused expedited told = 32 * command + 4 * unused + 2 * bit expedited + bit told
 

@@ -1,23 +1,26 @@
 -- Document 02, Item 3: what is claimed of the server.
 -- Assumes nothing.
-use Rattle.std.specs.Prelude.{◌≡◌, Bool, true, false, cond, ◌&&◌, List, [], ◌∷◌, ◌++◌, ℕ, ◌+◌, ◌*◌, ◌-◌, ◌/◌, ◌%◌, ◌≤◌, ◌<◌, eqb, ltb, length, ℤ}
-use Rattle.std.specs.Int.Signed.{mag}
-use Rattle.profile.specs.Bytes.{little_endian, bytes_of}
-use Rattle.profile.specs.Nodes.{stopped}
+use Rattle.std.specs.Prelude.{◌≡◌, Bool, true, false, cond, ◌&&◌, List, [], ◌∷◌, ◌++◌, ℕ, ◌+◌, ◌*◌, ◌-◌, ◌/◌, ◌%◌, ◌^◌, ◌≤◌, ◌<◌, eqb, length}
+use Rattle.profile.specs.Bits.{gather}
+use Rattle.profile.specs.Bytes.{little_endian}
 use Rattle.profile.specs.Entries.{entry_of}
-use Rattle.profile.specs.Calls.{Plain, read, write, on_sample, Call, direct, receive, transmit, request, Reply}
+use Rattle.profile.specs.Calls.{Plain, read, write, direct, request, Reply}
 use Rattle.profile.specs.Refusals.{request_refusal}
 use Rattle.profile.specs.Server.{command_of, unused_of, is_expedited, tells_size, told_size}
-use Rattle.profile.specs.Server.{first_of, entry_bytes, data_in, aborts, asked, download_reply, upload_reply, abort_reply}
-use Rattle.profile.specs.Machines.{node_alone}
+use Rattle.profile.specs.Server.{first_of, entry_bytes, data_in, aborts, asked, download_reply, upload_reply, abort_reply, encoded}
+use Rattle.profile.specs.Machines.{node_alone, analogue_input}
 use Rattle.profile.specs.Heard.{Machines, step_all}
-use Rattle.profile.specs.Replies.{plain, read_reply, unchanged, transmit_reply, reply}
+use Rattle.profile.specs.Replies.{plain, read_reply, unchanged, count_reply, silent, reply}
 
 -- ---- the bytes as they are sent, in numbers
 
 -- eight bytes: a first one, an index, a sub-index, four bytes of data
 abbrev pub framed : ℕ → ℕ → ℕ → List ℕ → List ℕ
 framed first index sub rest = first ∷ index % 256 ∷ index / 256 ∷ sub ∷ rest
+
+-- "least significant byte first"
+abbrev pub four_data : ℕ → List ℕ
+four_data v = v % 256 ∷ v / 256 % 256 ∷ v / 256 / 256 % 256 ∷ v / 256 / 256 / 256 % 256 ∷ []
 
 -- "expedited download and upload as in CiA 301", "Reserved bits aren't read": what each first byte of a client asks, whatever the bits and
 -- bytes that it does not give a meaning to
@@ -46,9 +49,9 @@ pub record AbortsBy (index sub : ℕ) : Type 0 where
 pub record ReplyBytes (first index sub v : ℕ) (rest : List ℕ) : Type 0 where
   pub uploaded_1 : upload_reply (framed first index sub rest) 1 v ≡ framed 0x4F index sub (v % 256 ∷ 0 ∷ 0 ∷ 0 ∷ [])
   pub uploaded_2 : upload_reply (framed first index sub rest) 2 v ≡ framed 0x4B index sub (v % 256 ∷ v / 256 % 256 ∷ 0 ∷ 0 ∷ [])
-  pub uploaded_4 : upload_reply (framed first index sub rest) 4 v ≡ framed 0x43 index sub (bytes_of 4 v)
+  pub uploaded_4 : upload_reply (framed first index sub rest) 4 v ≡ framed 0x43 index sub (four_data v)
   pub downloaded : download_reply (framed first index sub rest) ≡ framed 0x60 index sub (0 ∷ 0 ∷ 0 ∷ 0 ∷ [])
-  pub aborted : abort_reply (framed first index sub rest) v ≡ framed 0x80 index sub (bytes_of 4 v)
+  pub aborted : abort_reply (framed first index sub rest) v ≡ framed 0x80 index sub (four_data v)
 
 -- ---- encoded and decoded
 
@@ -70,27 +73,28 @@ decoded frame =
 
 -- ---- a request is the plain call
 
--- lists whose samples bring document 01's "sixteen signed 16-bit numbers", as every sample of a device does: what 6401 reads fits its bytes
-abbrev pub sixteen_bits : List ℤ → Bool
-sixteen_bits [] = true
-sixteen_bits (x ∷ xs) = ltb (mag x) 0x8000 && sixteen_bits xs
-
-abbrev pub short_sample : Plain → Bool
-short_sample c = on_sample true (λ digital analogue. sixteen_bits analogue) c
-
-abbrev pub short_call : Call → Bool
-short_call (direct c) = short_sample c
-short_call (receive message frame) = true
-short_call (transmit message frame) = true
-short_call (request frame reply) = true
-
--- "A request does exactly what the plain call does, for the machines too", c being that call; "number 0 and the reply's length"
+-- "A request does exactly what the plain call does, for the machines too", c being that call; "number 0 and the reply's length": the whole
+-- reply, which holds the reply of c as a frame
 pub record AsPlain (ms : Machines) (frame buffer : List ℕ) (c : Plain) : Type 0 where
   pub machines : step_all (request frame buffer) ms ≡ step_all (direct c) ms
-  pub answer : decoded (reply ms (request frame buffer)).bytes ≡ reply ms (direct c)
-  pub repeated : entry_bytes (reply ms (request frame buffer)).bytes ≡ entry_bytes frame
-  pub number : (reply ms (request frame buffer)).number ≡ 0
-  pub count : (reply ms (request frame buffer)).count ≡ 8
+  pub sent : reply ms (request frame buffer) ≡ count_reply 8 (encoded frame (reply ms (direct c)))
+  pub repeated : entry_bytes (encoded frame (reply ms (direct c))) ≡ entry_bytes frame
+
+-- "A read answers the entry's bytes as an unsigned number and their count": one byte to four, and the number fits them
+pub record ReadFits (r : Reply) : Type 0 where
+  pub least : 1 ≤ r.size
+  pub most : r.size ≤ 4
+  pub fits : r.value < 256 ^ r.size
+
+-- so does every accepted read of these machines
+abbrev pub ReadsFit : Machines → Type 0
+ReadsFit ms = (index sub : ℕ) → (reply ms (direct (read index sub))).number ≡ 0 → ReadFits (reply ms (direct (read index sub)))
+
+-- "An accepted read of 6422:1 answers the bits, then clears them all.": so does an upload of it
+pub record SourcesUploaded (ms : Machines) (frame buffer : List ℕ) : Type 0 where
+  pub sent : reply ms (request frame buffer)
+      ≡ count_reply 8 (framed 0x43 0x6422 1 (four_data (gather 16 (λ n. (ms analogue_input n).own.source))))
+  pub cleared : (n : ℕ) → (step_all (request frame buffer) ms analogue_input n).own.source ≡ false
 
 -- a request that no machine hears, and its whole reply
 pub record Unheard (ms : Machines) (frame buffer : List ℕ) (r : Reply) : Type 0 where
@@ -102,8 +106,7 @@ pub record Unheard (ms : Machines) (frame buffer : List ℕ) (r : Reply) : Type 
 pub record NoOtherChange (ms : Machines) (frame buffer : List ℕ) : Type 0 where
   pub refused : (request_refusal (length frame) (length buffer) ≡ 0 → ⊥)
       → Unheard ms frame buffer (unchanged (request_refusal (length frame) (length buffer)) buffer [])
-  pub while_stopped : request_refusal (length frame) (length buffer) ≡ 0 → stopped (ms node_alone 0).node ≡ true
-      → Unheard ms frame buffer (transmit_reply 0 buffer)
-  pub aborted : request_refusal (length frame) (length buffer) ≡ 0 → aborts frame ≡ true → Unheard ms frame buffer (transmit_reply 0 buffer)
-  pub unknown : request_refusal (length frame) (length buffer) ≡ 0 → stopped (ms node_alone 0).node ≡ false → aborts frame ≡ false
-      → asked frame ≡ [] → Unheard ms frame buffer (transmit_reply 8 (abort_reply frame 0x05040001))
+  pub unanswered : request_refusal (length frame) (length buffer) ≡ 0 → silent (ms node_alone 0).node frame ≡ true
+      → Unheard ms frame buffer (count_reply 0 buffer)
+  pub unknown : request_refusal (length frame) (length buffer) ≡ 0 → silent (ms node_alone 0).node frame ≡ false → asked frame ≡ []
+      → Unheard ms frame buffer (count_reply 8 (abort_reply frame 0x05040001))

@@ -6,7 +6,7 @@ ghost use Rattle.profile.specs.Answers.{buffer_answer};
 ghost use Rattle.profile.specs.Nodes.{stopped};
 ghost use Rattle.profile.specs.Calls.{Plain, Call};
 ghost use Rattle.profile.specs.Server.{asks_upload, index_in, sub_in, size_in, data_in};
-ghost use Rattle.profile.specs.Replies.{transmit_reply};
+ghost use Rattle.profile.specs.Replies.{count_reply};
 ghost use Rattle.store.specs.View.{node_at};
 ghost use Rattle.store.specs.Promises.{Ensured};
 ghost use Rattle.server.specs.View.{Done};
@@ -38,7 +38,7 @@ pub fn request(store: &mut Store, frame: &[u8], reply: &mut [u8]) -> Result<usiz
 #[tactic(auto, using(crate::proofs::Laws::for_serve), unfolding(profile::specs::Refusals::request_refusal, profile::specs::Server::asked))]
 fn serve(store: &mut Store, frame: &[u8; 8], reply: &mut [u8; 8]) -> usize
     requires { stopped (node_at store.old.octets store.old.flags) ≡ false }
-    ensures { Ensured store.old (Call.request frame.now reply.old) (transmit_reply result reply.new) store.new }
+    ensures { Ensured store.old (Call.request frame.now reply.old) (count_reply result reply.new) store.new }
 {
     let first = frame[0];
     if aborts(first) {
