@@ -1,5 +1,5 @@
 //! Requests that leave nothing out: every first byte on entries of every kind, every index, every length of
-//! both buffers, in each state of the node.
+//! both buffers from 0 to 24, in each state of the node.
 
 use crate::calls::{request_bytes, Call, Cause, Lent};
 use crate::lists_objects::Object;

@@ -344,7 +344,7 @@ static inline io401_transmit_answer io401_transmit_1A03(const io401_device *devi
  *   any other       unknown: segments, blocks, and downloads that are not expedited among them
  * Nothing but this read or write is done to the device, and what is not named here is not looked at.
  *
- * Every reply repeats bytes 2 to 4 of its request. Its bytes that are named neither there nor here are 0:
+ * Every reply repeats bytes 2 to 4 of its request; a byte of it that is not named below is 0:
  *   4F, 4B, 43      uploaded; 1, 2, 4 bytes of data from byte 5 on, the least significant first
  *   60              downloaded
  *   80              aborted; the last four are the code, the least significant first: the number that the read or

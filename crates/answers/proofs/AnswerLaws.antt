@@ -17,10 +17,9 @@ use Rattle.profile.proofs.EntryRanges.{InRange, WindowRange, in_range}
 use mir.Syntax.{w32}
 use Rattle.std.specs.Int.{to_le_bytes}
 use Rattle.words.specs.Ascii.{ascii}
-use Rattle.texts.specs.Texts.{bytes_text, decimal_text}
 use Rattle.words.specs.Buffers.{put}
 use Rattle.words.proofs.BufferLaws.{put_none, put_then}
-use Rattle.answers.specs.Answers.{newline, in_parentheses, number_text, four_bytes}
+use Rattle.answers.specs.Answers.{newline, in_parentheses, four_bytes, counted_text}
 
 -- the lines before a window of width w end no later than the window
 pub lines_before : (w s : ℕ) → w * (s - 1) ≤ w * s
@@ -35,8 +34,7 @@ number_is (Ok x) bytes = refl
 number_is (Err r) bytes = refl
 
 pub counted_is : (a : Result ℕ Refusal) (word bytes : List ℕ) (n count : ℕ) → n ≡ number_answered a → count ≡ result_unwrap_or a 0
-    → number_text (buffer_answer a bytes).number ++ word ++ bytes_text bytes ++ ascii " / " ++ decimal_text (buffer_answer a bytes).count
-    ≡ number_text n ++ word ++ bytes_text bytes ++ ascii " / " ++ decimal_text count
+    → counted_text (buffer_answer a bytes).number word bytes (buffer_answer a bytes).count ≡ counted_text n word bytes count
 counted_is (Ok x) word bytes n count p q = cc
 counted_is (Err r) word bytes n count p q = cc
 

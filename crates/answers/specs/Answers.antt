@@ -42,7 +42,7 @@ refusals =
     ∷ 0x06010000 is "count is not 0"
     ∷ 0x06040041 is "entry cannot be mapped"
     ∷ 0x06040042 is "more than 8 entries or 64 bits"
-    ∷ 0x05040001 is "no such request"
+    ∷ 0x05040001 is "not an expedited transfer"
     ∷ []
 
 unfoldable pub refusal_text : ℕ → List ℕ
@@ -136,10 +136,13 @@ frame_end n active =
     cond (eqb n 0) (cond active newline (in_parentheses (ascii "node not operational")))
     (in_parentheses (ascii "frame buffer not 8 bytes"))
 
+-- the call's number, a word, "the buffer as the call left it, `/`", and a count
+abbrev pub counted_text : ℕ → List ℕ → List ℕ → ℕ → List ℕ
+counted_text n word buffer count = number_text n ++ word ++ bytes_text buffer ++ ascii " / " ++ decimal_text count
+
 -- "`frame`, the buffer as the call left it, `/`, how many bytes were written"
 unfoldable pub frame_line : ℕ → List ℕ → ℕ → Bool → List ℕ
-frame_line n frame count active =
-    number_text n ++ ascii " frame" ++ bytes_text frame ++ ascii " / " ++ decimal_text count ++ frame_end n active
+frame_line n frame count active = counted_text n (ascii " frame") frame count ++ frame_end n active
 
 -- what should have stood in a line
 abbrev pub expected_text : Expected → List ℕ

@@ -11,7 +11,7 @@ ghost use Rattle.texts.specs.Texts.{bytes_text, decimal_text};
 ghost use Rattle.answers.specs.Answers.{newline, number_text, end_text, lines_text, entry_text, direction_text};
 ghost use Rattle.answers.specs.Answers.{place_in_mapping, mapping_text};
 ghost use Rattle.answers.specs.Answers.{plain_line, write_line, read_line, sample_line, drive_line, unknown_line};
-ghost use Rattle.answers.specs.Answers.{receive_end, receive_line, frame_end, frame_line, unmet_line, totals_text, judged_text};
+ghost use Rattle.answers.specs.Answers.{receive_end, receive_line, frame_end, counted_text, frame_line, unmet_line, totals_text, judged_text};
 
 use crate::tables::{attribute, meaning, wanted};
 use dictionary::entries::find;
@@ -185,8 +185,7 @@ pub fn put_counted<B: Buffer<u8>>(
     buffer: &[u8],
 )
     ensures { B.held out.new ≡ put B.most (B.held out.old)
-        (number_text (buffer_answer answer buffer.now).number ++ word.now ++ bytes_text buffer.now
-        ++ ascii " / " ++ decimal_text (buffer_answer answer buffer.now).count) }
+        (counted_text (buffer_answer answer buffer.now).number word.now buffer.now (buffer_answer answer buffer.now).count) }
 {
     let count = answer.unwrap_or(0);
     put_buffer(out, &answer, word, buffer);

@@ -49,7 +49,7 @@ pub fn meaning(number: u32) -> &'static [u8]
         0x0601_0000 => b"count is not 0",
         0x0604_0041 => b"entry cannot be mapped",
         0x0604_0042 => b"more than 8 entries or 64 bits",
-        NO_REQUEST => b"no such request",
+        NO_REQUEST => b"not an expedited transfer",
         _ => b"refused",
     }
 }

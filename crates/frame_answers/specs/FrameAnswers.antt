@@ -5,12 +5,7 @@ use Rattle.profile.specs.Bytes.{little_endian}
 use Rattle.profile.specs.Entries.{home_of}
 use Rattle.profile.specs.Server.{index_in, sub_in, data_in, aborts}
 use Rattle.words.specs.Ascii.{ascii}
-use Rattle.texts.specs.Texts.{decimal_text, bytes_text}
-use Rattle.answers.specs.Answers.{newline, in_parentheses, number_text, refusal_text, entry_text}
-
--- the call's number, a word, "the buffer as the call left it, `/`", and a count
-abbrev pub buffer_text : ℕ → List ℕ → List ℕ → ℕ → List ℕ
-buffer_text n word buffer count = number_text n ++ word ++ bytes_text buffer ++ ascii " / " ++ decimal_text count
+use Rattle.answers.specs.Answers.{newline, in_parentheses, refusal_text, entry_text, counted_text}
 
 -- "Request not 8 bytes long: number 7 .. Reply buffer not 8 long: 5"
 unfoldable pub refused_end : ℕ → List ℕ
@@ -18,7 +13,7 @@ refused_end n = cond (eqb n 7) (in_parentheses (ascii "request not 8 bytes")) (i
 
 -- "A client's abort, or any request while stopped, gets no reply": which it was
 unfoldable pub silent_end : Bool → List ℕ
-silent_end stopped = cond stopped (in_parentheses (ascii "node stopped, no reply")) (in_parentheses (ascii "abort, no reply"))
+silent_end stopped = cond stopped (in_parentheses (ascii "node stopped, no reply")) (in_parentheses (ascii "client's abort, no reply"))
 
 -- what the code of an abort means
 unfoldable pub abort_end : ℕ → List ℕ
@@ -37,4 +32,4 @@ reply_end n reply count stopped = cond (eqb n 0) (cond (eqb count 0) (silent_end
 
 -- "`reply`, the reply buffer as the call left it, `/`, the length, 8 or 0"
 unfoldable pub reply_line : ℕ → List ℕ → ℕ → Bool → List ℕ
-reply_line n reply count stopped = buffer_text n (ascii " reply") reply count ++ reply_end n reply count stopped
+reply_line n reply count stopped = counted_text n (ascii " reply") reply count ++ reply_end n reply count stopped

@@ -63,7 +63,7 @@ fn silent_end(stopped: bool) -> &'static [u8]
     if stopped {
         b" (node stopped, no reply)\n"
     } else {
-        b" (abort, no reply)\n"
+        b" (client's abort, no reply)\n"
     }
 }
 
