@@ -82,6 +82,9 @@ module _ (index sub : ℕ) where
       → asked (framed first index sub rest) ≡ []
   nothing first rest u d = unknown_asks (framed first index sub rest) u d
 
+  uploads : (first : ℕ) (rest : List ℕ) → 0x40 ≤ first → first < 0x60 → asks_upload (framed first index sub rest) ≡ true
+  uploads first rest h l = ap (λ (x : ℕ). eqb x 2) (command_is 2 first h (omega arith) (omega arith))
+
   -- by its command alone
   other : (first : ℕ) (rest : List ℕ) → (first / 32 % 8 ≡ 1 → ⊥) → (first / 32 % 8 ≡ 2 → ⊥) → asked (framed first index sub rest) ≡ []
   other first rest d u =
@@ -92,7 +95,7 @@ module _ (index sub : ℕ) where
   asked_by =
       record {
         upload = λ first rest h l.
-            upload_asks (framed first index sub rest) (ap (λ (x : ℕ). eqb x 2) (command_is 2 first h (omega arith) (omega arith)))
+            upload_asks (framed first index sub rest) (uploads first rest h l)
             ∙ ap (λ (x : ℕ). read x sub ∷ []) (index_back first rest);
         told = λ size reserved payload spare h k r l.
             let first = 0x23 + 4 * (4 - size) + 16 * reserved in
@@ -147,11 +150,9 @@ unfolding encoded
 sources_uploaded ms running first rest buffer h l k b =
     let frame = framed first 0x6422 1 rest in
     let asks = (asked_by 0x6422 1).upload first rest h l in
-    let uploads : asks_upload frame ≡ true =
-    ap (λ (x : ℕ). eqb x 2) (command_is 2 first h (omega arith) (omega arith)) in
     let same = as_plain ms frame buffer (read 0x6422 1) (omega (arith, k)) b (running node_alone 0) asks in
     record {
-      sent = same.sent ∙ rw (sources_read ms (running node_alone 0), uploads)
+      sent = same.sent ∙ rw (sources_read ms (running node_alone 0), uploads 0x6422 1 first rest h l)
           (ap (λ (f : List ℕ). count_reply 8 f) (reply_bytes first 0x6422 1 (gather 16 (λ n. (ms analogue_input n).own.source)) rest).uploaded_4);
       cleared = λ n.
           ap (λ (x : Machines). (x analogue_input n).own.source) same.machines
