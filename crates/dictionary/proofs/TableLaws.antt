@@ -5,8 +5,10 @@ use mathlib.Core.Bool.{Bool, true, false, ◌&&◌}
 use mathlib.Core.List.{List, [], ◌∷◌}
 use Prim.Native.Nat.{ℕ, zero, suc, ◌+◌, ◌*◌, ◌/◌, ◌%◌, ◌^◌, ◌<◌, suc-le-suc}
 use native.Mathlib.Nat.{add-zero, zero-add, add-suc, suc-add, le_of_suc-le-suc, not-suc-le-zero, zero-lt-suc, mod-lt}
+use native.Mathlib.Omega.{arith}
 use lib.Dec.{T, eqb, ltb, eqb→eq, ltb→lt}
 use lib.ListN.{length, get_or, take, drop}
+use lib.Bits.{bit_and, and_mask}
 use borrow.Author.Tests.{ne_eqb, eqb-true, eqb-false}
 use Rattle.profile.specs.Bytes.{list_from}
 use Rattle.dictionary.specs.Lookup.{key_of, place_word}
@@ -102,21 +104,38 @@ small : (k : ℕ) → k < 128 → T (ltb (hint k) 44)
 small k h = subst (λ (n : ℕ). T (ltb (hint n) 44)) (list_from_at 128 0 (λ n. n) k 0 h ∙ zero-add k)
     (each (λ i x. ltb (hint x) 44) (list_from 128 0 (λ n. n)) tt k h)
 
-pub hint_small : (x : ℕ) → hint (key_of x) < 44
+hint_small : (x : ℕ) → hint (key_of x) < 44
 hint_small x = ltb→lt (hint (key_of x)) 44 (small (key_of x) (mod-lt (5 * x + x / 16) (zero-lt-suc 127)))
 
-pub hint_right : (p : ℕ) → p < 44 → hint (key_of (get_or table p 0)) ≡ p
+hint_right : (p : ℕ) → p < 44 → hint (key_of (get_or table p 0)) ≡ p
 hint_right p h = eqb→eq (hint (key_of (get_or table p 0))) p (each (λ i x. eqb (hint (key_of x)) i) table tt p h)
 
--- the index that the hint points at decides
-pub hint_found : (x : ℕ) → x ≡ get_or (get_or rows (hint (key_of x) / 4) []) (hint (key_of x) % 4) 0 → hint (key_of x) ≡ place table x
-hint_found x e = sym (ap (place table) (e ∙ row_entry (hint (key_of x)) (hint_small x)) ∙ place_table (hint (key_of x)) (hint_small x))
+-- the same by shifts and masks, as the code has it: of an index x the number, the word of its key, and the place
+pub hint_shifted : (x n word p : ℕ) → n ≡ x → word ≡ place_word (bit_and (5 * n + n / 16) 127 / 8)
+    → p ≡ bit_and (word / 2 ^ (8 * bit_and (bit_and (5 * n + n / 16) 127) 7)) 255 → p ≡ hint (key_of x)
+hint_shifted x n word p en ew ep =
+    rw (ep, ew, en, and_mask _ 7, and_mask _ 3, and_mask _ 8) refl
 
-missed_by : (x : ℕ) → (x ≡ get_or (get_or rows (hint (key_of x) / 4) []) (hint (key_of x) % 4) 0 → ⊥) → Stands table x → 44 ≡ place table x
-missed_by x ne (there p h e) =
-    absurd (ne (e ∙ sym (row_entry p h) ∙ ap (λ (n : ℕ). get_or (get_or rows (n / 4) []) (n % 4) 0)
-    (sym (hint_right p h) ∙ ap (λ (y : ℕ). hint (key_of y)) (sym e))))
-missed_by x ne (nowhere e) = sym e
+-- the index that the place points at decides
+module _ (x p : ℕ) (is : p ≡ hint (key_of x)) where
+  pub below : p < 44
+  below = rw is (hint_small x)
 
-pub hint_missed : (x : ℕ) → (x ≡ get_or (get_or rows (hint (key_of x) / 4) []) (hint (key_of x) % 4) 0 → ⊥) → 44 ≡ place table x
-hint_missed x ne = missed_by x ne (stands table x)
+  pub row_below : p / 4 < 11
+  row_below = omega (arith, below)
+
+  abbrev pub Points : Type 0
+  Points = x ≡ get_or (get_or rows (p / 4) []) (bit_and p 3) 0
+
+  pub pointed : Points → p ≡ place table x
+  pointed e =
+      sym (ap (place table) (rw (and_mask p 2) at e ∙ row_entry p below) ∙ place_table p below)
+
+  missed_by : (Points → ⊥) → Stands table x → 44 ≡ place table x
+  missed_by ne (there q h e) =
+      let same : p ≡ q = is ∙ ap (λ (y : ℕ). hint (key_of y)) e ∙ hint_right q h in
+      absurd (ne (rw (and_mask p 2) (e ∙ sym (row_entry q h) ∙ ap (λ (n : ℕ). get_or (get_or rows (n / 4) []) (n % 4) 0) (sym same))))
+  missed_by ne (nowhere e) = sym e
+
+  pub missed : (Points → ⊥) → 44 ≡ place table x
+  missed ne = missed_by ne (stands table x)

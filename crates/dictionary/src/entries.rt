@@ -1,6 +1,6 @@
 // The object dictionary of documents 01 and 02: which entry an index and a sub-index name.
 ghost use Rattle.std.specs.Prelude.{◌≡◌, ◌<◌};
-ghost use Rattle.dictionary.specs.Lookup.{place_word, IsPlace};
+ghost use Rattle.dictionary.specs.Lookup.{place_word, IsPlace, OfColumn};
 ghost use Rattle.profile.specs.Entries.{width_of, at, object, reading, setting, short, window};
 ghost use Rattle.profile.specs.Entries.{mapping_object, mapping_objects, lookup, object_of, entry_of};
 ghost use Rattle.profile.specs.Answers.{found};
@@ -58,7 +58,7 @@ pub fn find(index: u16, sub: u8) -> Result<Entry, Refusal>
     ensures { found result ≡ entry_of index sub }
 {
     match place_of(index) {
-        Some(place) => window(place / 4, place % 4, sub),
+        Some(place) => window(place >> 2, place & 3, sub),
         None => object(index, sub),
     }
 }
@@ -78,10 +78,10 @@ fn keyed_place(index: u16) -> Option<usize>
     ensures { IsPlace index result }
 {
     let number = usize::from(index);
-    let key = (5 * number + number / 16) % 128;
-    let word = places(key / 8);
-    let place = ((word >> (8 * (key % 8))) % 256) as usize;
-    if index == INDICES[place / 4][place % 4] {
+    let key = (5 * number + (number >> 4)) & 127;
+    let word = places(key >> 3);
+    let place = ((word >> (8 * (key & 7))) & 255) as usize;
+    if index == INDICES[place >> 2][place & 3] {
         Some(place)
     } else {
         None
@@ -160,26 +160,35 @@ fn short(sub: u8, last: u8, home: Home) -> Result<Entry, Refusal>
     at(sub, last, entry)
 }
 
-// By the row and the column of the table of digital lines. An entry of one line is one byte.
+// Of a column of the table of digital lines: the exponent of its width, and the highest value of an entry.
+fn of_column(column: usize) -> (usize, u32)
+    requires { column < 4 }
+    ensures { OfColumn column result }
+{
+    match column {
+        0 => (0, 1),
+        1 => (3, ANY),
+        2 => (4, ANY),
+        _ => (5, ANY),
+    }
+}
+
+// By the row and the column of that table, every width alike.
 fn window(row: usize, column: usize, sub: u8) -> Result<Entry, Refusal>
     requires { column < 4 }
     ensures { found result ≡ at sub (window row (width_of column) sub) }
 {
-    let (last, size, highest, width) = match column {
-        0 => (128, 1, 1, 1),
-        1 => (16, 1, ANY, 8),
-        2 => (8, 2, ANY, 16),
-        _ => (4, 4, ANY, 32),
-    };
+    let (exponent, highest) = of_column(column);
+    let width = 1 << exponent;
     let entry = Entry {
-        size,
+        size: ((width + 7) >> 3) as u8,
         fixed: row == 0,
         short: false,
         lowest: 0,
         highest,
         home: Home::Window(row, width, usize::from(sub)),
     };
-    at(sub, last, entry)
+    at(sub, (128usize >> exponent) as u8, entry)
 }
 
 // A process data mapping: which of the eight. Its entry count is written.

@@ -4,6 +4,7 @@ pub mod Bits
 pub mod Bytes
 pub mod Nodes
 pub mod Entries
+pub mod Shifts
 pub mod MappedEntries
 pub mod Calls
 pub mod Numbers

@@ -13,15 +13,16 @@ struct Place {
     shift: usize,
 }
 
-// Every width has this one lookup.
+// Every width has this one lookup, by its exponent and with shifts; a word has 1 << 6 lines.
 fn locate(row: usize, width: usize, sub: usize) -> Place
     requires { Covers row width sub }
     ensures { (result.word ≡ 2 * row + first_line width sub / 64) × (result.shift ≡ first_line width sub % 64) }
 {
-    let first = width * (sub - 1);
+    let exponent = width.trailing_zeros();
+    let first = (sub - 1) << exponent;
     Place {
-        word: 2 * row + first / 64,
-        shift: first % 64,
+        word: 2 * row + (first >> 6),
+        shift: first & 63,
     }
 }
 
