@@ -110,7 +110,7 @@ hint_small x = ltb→lt (hint (key_of x)) 44 (small (key_of x) (mod-lt (5 * x + 
 hint_right : (p : ℕ) → p < 44 → hint (key_of (get_or table p 0)) ≡ p
 hint_right p h = eqb→eq (hint (key_of (get_or table p 0))) p (each (λ i x. eqb (hint (key_of x)) i) table tt p h)
 
--- the same by shifts and masks, as the code has it: of an index x the number, the word of its key, and the place
+-- the hint by shifts and masks, as the code has it: n is the index x as a number, word has the place of its key, p is that place
 pub hint_shifted : (x n word p : ℕ) → n ≡ x → word ≡ place_word (bit_and (5 * n + n / 16) 127 / 8)
     → p ≡ bit_and (word / 2 ^ (8 * bit_and (bit_and (5 * n + n / 16) 127) 7)) 255 → p ≡ hint (key_of x)
 hint_shifted x n word p en ew ep =

@@ -173,7 +173,7 @@ fn of_column(column: usize) -> (usize, u32)
     }
 }
 
-// By the row and the column of that table, every width alike.
+// By the row and the column of that table, every width alike; a value has as many bytes as hold its lines.
 fn window(row: usize, column: usize, sub: u8) -> Result<Entry, Refusal>
     requires { column < 4 }
     ensures { found result ≡ at sub (window row (width_of column) sub) }

@@ -28,18 +28,18 @@ pub record IsExponent (k w : ℕ) : Type 0 where
   pub most : k ≤ 5
 
 -- `n << k` and `n >> k` of a number of 64 bits
-abbrev pub left : ℕ → ℕ → ℕ
-left n k = n * 2 ^ k % 2 ^ 64
+abbrev pub shl : ℕ → ℕ → ℕ
+shl n k = n * 2 ^ k % 2 ^ 64
 
-abbrev pub right : ℕ → ℕ → ℕ
-right n k = n / 2 ^ k
+abbrev pub shr : ℕ → ℕ → ℕ
+shr n k = n / 2 ^ k
 
 -- the same by shifts and the mask of 6 bits, k being the exponent of w
 abbrev pub by_shifts : ℕ → ℕ → ℕ → Found
 by_shifts k row s =
     record {
-      word = 2 * row + right (left (s - 1) k) 6;
-      bit = bit_and (left (s - 1) k) 63;
-      windows = right 128 k;
-      bytes = right (left 1 k + 7) 3;
+      word = 2 * row + shr (shl (s - 1) k) 6;
+      bit = bit_and (shl (s - 1) k) 63;
+      windows = shr 128 k;
+      bytes = shr (shl 1 k + 7) 3;
     }

@@ -10,7 +10,7 @@ use lib.Bits.{bit_and}
 use lib.Pow.{pow_mono}
 use Rattle.std.specs.Int.{◌∣◌}
 use Rattle.profile.specs.Entries.{first_line}
-use Rattle.profile.specs.Shifts.{Found, IsExponent, by_division, by_shifts, left}
+use Rattle.profile.specs.Shifts.{Found, IsExponent, by_division, by_shifts, shl}
 use Rattle.profile.proofs.BitLaws.{two_cases}
 use Rattle.profile.proofs.ShiftLaws.{shifts_find}
 use Rattle.windows.specs.Promises.{Width, Covers}
@@ -68,6 +68,6 @@ found {row} {w} {s} c =
     shifts_find w (exponent w) row s (is_exponent c.width) (omega (arith, below, one-mul s, c.last))
 
 pub placed : {row w s : ℕ} → Covers row w s
-    → (2 * row + left (s - 1) (exponent w) / 64 ≡ 2 * row + first_line w s / 64)
-    × (bit_and (left (s - 1) (exponent w)) 63 ≡ first_line w s % 64)
+    → (2 * row + shl (s - 1) (exponent w) / 64 ≡ 2 * row + first_line w s / 64)
+    × (bit_and (shl (s - 1) (exponent w)) 63 ≡ first_line w s % 64)
 placed c = (ap (λ (f : Found). f.word) (found c), ap (λ (f : Found). f.bit) (found c))

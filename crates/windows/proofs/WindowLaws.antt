@@ -4,12 +4,12 @@ use mathlib.Core.Path.{◌≡◌, refl, sym, ap, ap₂, ◌∙◌}
 use mathlib.Core.Bool.{Bool, true, false, not, cond, ◌&&◌, ◌||◌, and-false, and-true, or-false}
 use mathlib.Core.List.{List}
 use Prim.Native.Nat.{ℕ, zero, suc, ◌+◌, ◌-◌, ◌*◌, ◌/◌, ◌%◌, ◌^◌, ◌≤◌, ◌<◌}
-use native.Mathlib.Nat.{mod-lt, mod-eq_of_lt, mul-add, mul_assoc, mul-one, one-mul, mul-zero, mul-le-mul_left, div-add-mod, zero-lt-suc}
+use native.Mathlib.Nat.{mod-lt, mul-add, mul_assoc, mul-one, mul-zero, mul-le-mul_left, div-add-mod, zero-lt-suc}
 use native.Mathlib.Omega.{arith}
 use lib.Dec.{eqb, leb, ltb}
 use lib.ListN.{length, get_or, set, length-set}
 use lib.Seq.{get_or-set_same, get_or-set_other}
-use lib.Pow.{pow_pos, pow-lt}
+use lib.Pow.{pow_pos}
 use lib.Bits.{bit_and, bit_or, and_mask}
 use mir.Syntax.{w64}
 use mir.Val.{Fits}
@@ -19,6 +19,7 @@ use Rattle.profile.specs.Entries.{first_line, inside, bit_of}
 use Rattle.profile.proofs.BoolLaws.{both}
 use Rattle.profile.proofs.BitLaws.{bit_and_lem, bit_or_lem, bit_not, bit_ones, bit_small, bit_shr, bit_shl, bit_mod}
 use Rattle.profile.proofs.BitLaws.{gather_bit, gather_bits, gather_cong, gather_small}
+use Rattle.profile.proofs.ShiftLaws.{power_shifted}
 use Rattle.windows.specs.View.{line_at, window}
 use Rattle.windows.specs.Promises.{Covers, Lined, written}
 
@@ -69,8 +70,8 @@ bounds {a} {w} {s} c =
     }
 
 -- 1 << w
-pub size : (w : ℕ) → w ≤ 32 → 1 * 2 ^ w % 2 ^ 64 ≡ 2 ^ w
-size w h = ap (λ (x : ℕ). x % 2 ^ 64) (one-mul (2 ^ w)) ∙ mod-eq_of_lt (pow-lt {i = w} {j = 64} (omega arith))
+size : (w : ℕ) → w ≤ 32 → 1 * 2 ^ w % 2 ^ 64 ≡ 2 ^ w
+size w h = power_shifted w (omega (arith, h))
 
 -- ---- reading
 
