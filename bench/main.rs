@@ -15,6 +15,8 @@ mod fast_mappings;
 mod fast_samples;
 #[path = "../compare/fast_server.rs"]
 mod fast_server;
+#[path = "../compare/fast_watch.rs"]
+mod fast_watch;
 #[path = "../compare/library.rs"]
 mod library;
 #[allow(dead_code)]
@@ -33,6 +35,12 @@ mod lists_objects;
 #[allow(dead_code)]
 #[path = "../compare/lists_server.rs"]
 mod lists_server;
+#[allow(dead_code)]
+#[path = "../compare/lists_watch.rs"]
+mod lists_watch;
+#[allow(dead_code)]
+#[path = "../compare/lists_watched.rs"]
+mod lists_watched;
 #[path = "../compare/paper.rs"]
 mod paper;
 #[path = "../compare/paper_entries.rs"]
@@ -47,6 +55,9 @@ mod paper_node;
 mod paper_objects;
 #[path = "../compare/paper_server.rs"]
 mod paper_server;
+#[allow(dead_code)]
+#[path = "../compare/paper_watch.rs"]
+mod paper_watch;
 mod rows;
 
 use calls::{Answer, Call, Machine};

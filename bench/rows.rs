@@ -14,7 +14,7 @@ pub const LENGTH: usize = 400;
 /// A fresh device's. Lines that change at this pace differ at every sample, and settle at each third.
 const FILTER_LENGTH: usize = 3;
 
-pub const ROWS: [Row; 25] = [
+pub const ROWS: [Row; 29] = [
     // An empty list stands for creates, which start from no device.
     Row { name: "create", calls: |_| Vec::new(), filtered: 16 },
     Row { name: "read lines", calls: read_lines, filtered: 16 },
@@ -40,11 +40,16 @@ pub const ROWS: [Row; 25] = [
     Row { name: "download lines", calls: |random| downloads(random, true), filtered: 16 },
     Row { name: "download, size untold", calls: |random| downloads(random, false), filtered: 16 },
     Row { name: "upload aborted", calls: |_| vec![request(0x40, 0x6500, 1, [0; 4]); LENGTH], filtered: 16 },
+    Row { name: "read and write 1016", calls: |_| watch_entries(), filtered: 16 },
+    Row { name: "heartbeat", calls: |_| heartbeats(), filtered: 16 },
+    Row { name: "elapsed, none due", calls: |_| vec![Call::Elapsed { milliseconds: 0 }; LENGTH], filtered: 16 },
+    Row { name: "expire and clear", calls: |_| expiries(), filtered: 16 },
     Row { name: "mix", calls: mix, filtered: 16 },
 ];
 
 /// Operational, analogue events on, a filter on the first lines, a delta of 10; eight bytes mapped for
-/// message 1 and one for message 2, byte by byte, so that a full frame has as many entries as it can.
+/// message 1 and one for message 2, byte by byte, so that a full frame has as many entries as it can; four nodes
+/// watched, each for a second.
 pub fn set_up(filtered: u8) -> Vec<Call> {
     let mut calls = vec![Call::Command { code: 1, node: 0 }, write(0x6423, 0, 1, 1)];
     calls.extend((1..=filtered / 16).map(|sub| write(0x6103, sub, 0xFFFF, 2)));
@@ -55,6 +60,8 @@ pub fn set_up(filtered: u8) -> Vec<Call> {
         calls.push(write(index + 1, 1, mapped << 16 | 1 << 8 | 8, 4));
         calls.push(write(index + 1, 0, 1, 1));
     }
+    calls.extend((1..=4).map(|sub| write(0x1016, sub, watched(sub), 4)));
+    calls.extend((1..=4).map(|node| Call::Heartbeat { node }));
     calls
 }
 
@@ -151,6 +158,35 @@ fn causes() -> Vec<Call> {
 
 fn drive() -> Call {
     Call::Drive { lines: Lent::new([0; 24], 16), channels: Lent::new([0; 24], 8) }
+}
+
+/// Each entry of 1016 written, node and time as they are, and read.
+fn watch_entries() -> Vec<Call> {
+    let one = |n: usize| {
+        let sub = 1 + (n / 2 % 4) as u8;
+        if n % 2 == 0 { write(0x1016, sub, watched(sub), 4) } else { Call::Read { index: 0x1016, sub } }
+    };
+    (0..LENGTH).map(one).collect()
+}
+
+/// A node for an entry, and a second.
+fn watched(sub: u8) -> u32 {
+    u32::from(sub) << 16 | 1000
+}
+
+/// Of the four nodes that are watched, and of one that is not.
+fn heartbeats() -> Vec<Call> {
+    (0..LENGTH).map(|n| Call::Heartbeat { node: 1 + (n % 5) as u8 }).collect()
+}
+
+/// A heartbeat, the time by which that entry expires, and the loss cleared: two other calls for each expiry.
+fn expiries() -> Vec<Call> {
+    let three = |n: usize| match n % 3 {
+        0 => Call::Heartbeat { node: 1 + (n / 3 % 4) as u8 },
+        1 => Call::Elapsed { milliseconds: 1000 },
+        _ => Call::Clear(Cause::CommunicationLoss),
+    };
+    (0..LENGTH).map(three).collect()
 }
 
 /// Frames of eight bytes, of which a mapping of one entry reads the first.

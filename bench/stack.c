@@ -241,10 +241,50 @@ static void over_behaviours(size_t *raises, size_t *clears, int state)
     }
 }
 
-enum { CREATE, READ, WRITE, WRITE_VALUE, SAMPLE, COMMAND, RAISE, CLEAR, DRIVE, RECEIVE, TRANSMIT, REQUEST, CALLS };
+/* Each entry of 1016, to read and to write: unused, used, for the node of another entry, with bits 24 to 31. */
+static void over_watches(size_t *worst, void (*call)(void))
+{
+    static const uint32_t VALUES[] = {0, IO401_WATCH_ENTRY(9, 100), IO401_WATCH_ENTRY(1, 100), 0x01000000};
+    index_now = 0x1016;
+    for (sub_now = 1, size_now = 4; sub_now <= IO401_WATCH_ENTRIES; sub_now++) {
+        for (size_t n = 0; n < sizeof VALUES / sizeof VALUES[0]; n++) {
+            take_value(VALUES[n]);
+            grow(worst, call);
+        }
+    }
+}
+
+/* The four entries watch nodes 1 to 4 for 1 to 4 s: a heartbeat of each node and of one that none watches. */
+static void watch_nodes(size_t *worst)
+{
+    for (uint8_t sub = 1; sub <= IO401_WATCH_ENTRIES; sub++)
+        io401_write_value(&device, 0x1016, sub, IO401_WATCH_ENTRY(sub, 1000u * sub), 4);
+    for (node_now = 0; node_now <= IO401_WATCH_ENTRIES + 1; node_now++) {
+        grow(worst, call_heartbeat);
+        call_heartbeat();
+    }
+}
+
+/* Time by which none, one, and more of them expire, by what 1029:1 says. */
+static void over_times(size_t *heartbeats, size_t *times, int state)
+{
+    static const uint32_t TIMES[] = {0, 999, 1000, 2000, 4000, UINT32_MAX};
+    for (uint32_t behaviour = 0; behaviour < 3; behaviour++) {
+        enter_state(state, FILTER_LENGTH);
+        io401_write_value(&device, 0x1029, 1, behaviour, 1);
+        watch_nodes(heartbeats);
+        for (size_t n = 0; n < sizeof TIMES / sizeof TIMES[0]; n++) {
+            milliseconds_now = TIMES[n];
+            grow(times, call_elapsed);
+        }
+    }
+}
+
+enum { CREATE, READ, WRITE, WRITE_VALUE, SAMPLE, COMMAND, RAISE, CLEAR, DRIVE, RECEIVE, TRANSMIT, REQUEST, HEARTBEAT, ELAPSED, CALLS };
 
 static const char *const NAMES[CALLS] = {"create", "read",  "write", "write_value", "sample", "command",
-                                         "raise",  "clear", "drive", "receive",     "transmit", "request"};
+                                         "raise",  "clear", "drive", "receive",     "transmit", "request",
+                                         "heartbeat", "elapsed"};
 
 static void measure(size_t worst[CALLS])
 {
@@ -266,6 +306,10 @@ static void measure(size_t worst[CALLS])
         grow(&worst[DRIVE], call_drive);
         over_samples(&worst[SAMPLE], state);
         over_behaviours(&worst[RAISE], &worst[CLEAR], state);
+        over_times(&worst[HEARTBEAT], &worst[ELAPSED], state);
+        over_watches(&worst[READ], call_read);
+        over_watches(&worst[WRITE], call_write);
+        over_watches(&worst[WRITE_VALUE], call_write_value);
     }
 }
 

@@ -18,6 +18,8 @@ static uint8_t bytes_now[4]; /* of that value */
 static size_t size_now;
 static uint8_t code_now;
 static bool loss_now;
+static uint8_t node_now;
+static uint32_t milliseconds_now;
 static uint8_t digital[IO401_LINE_BYTES];
 static int16_t analogue[IO401_ANALOGUE_INPUTS];
 static uint8_t lines[IO401_LINE_BYTES];
@@ -38,6 +40,8 @@ static void call_write(void) { answered = io401_write(&device, index_now, sub_no
 static void call_command(void) { answered = io401_command(&device, code_now, NODE); }
 static void call_raise(void) { answered = io401_raise(&device, loss_now); }
 static void call_clear(void) { answered = io401_clear(&device, loss_now); }
+static void call_heartbeat(void) { answered = io401_heartbeat(&device, node_now); }
+static void call_elapsed(void) { answered = io401_elapsed(&device, milliseconds_now); }
 
 static void call_write_value(void)
 {

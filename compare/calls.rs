@@ -51,6 +51,8 @@ pub trait Machine: Clone {
     fn receive(&mut self, message: Message, frame: &[u8]) -> Answer;
     fn transmit(&mut self, message: Message, frame: &mut [u8]) -> Answer;
     fn request(&mut self, request: &[u8], reply: &mut [u8]) -> Answer;
+    fn heartbeat(&mut self, node: u8) -> Answer;
+    fn elapsed(&mut self, milliseconds: u32) -> Answer;
 }
 
 /// A lent buffer of any length up to 24.
@@ -94,6 +96,8 @@ pub enum Call {
     Receive { message: Message, frame: Lent<u8> },
     Transmit { message: Message, frame: Lent<u8> },
     Request { request: Lent<u8>, reply: Lent<u8> },
+    Heartbeat { node: u8 },
+    Elapsed { milliseconds: u32 },
 }
 
 impl Call {
@@ -112,6 +116,8 @@ impl Call {
             Call::Receive { message, frame } => device.receive(*message, frame.part()),
             Call::Transmit { message, frame } => device.transmit(*message, frame.part_mut()),
             Call::Request { request, reply } => device.request(request.part(), reply.part_mut()),
+            Call::Heartbeat { node } => device.heartbeat(*node),
+            Call::Elapsed { milliseconds } => device.elapsed(*milliseconds),
         }
     }
 }

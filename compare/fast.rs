@@ -1,11 +1,12 @@
-//! Document 01 and Items 1 to 3 of document 02 for speed: rows of 128 bits, the device changed in place,
-//! an index found by one load, driven outputs computed when they are asked for.
+//! Document 01 and Items 1 to 3 and 5 of document 02 for speed: rows of 128 bits, the device changed in
+//! place, an index found by one load, driven outputs computed when they are asked for.
 
 use crate::calls::{Answer, Cause, Machine, Message};
 use crate::fast_entries::number_of;
 use crate::fast_kinds::*;
-use crate::fast_mappings::{Mapping, Part, FIRST_TRANSMIT, MAPPINGS};
+use crate::fast_mappings::{Mapping, MAPPINGS};
 use crate::fast_samples::Counts;
+use crate::fast_watch::Watches;
 
 const PRE_OPERATIONAL: u8 = 0;
 pub const OPERATIONAL: u8 = 1;
@@ -57,6 +58,7 @@ pub struct Device {
     /// The bits of the longest filter length so far; no count has more.
     pub count_bits: u8,
     pub mappings: [Mapping; MAPPINGS],
+    pub watches: Watches,
 }
 
 impl Device {
@@ -86,6 +88,7 @@ impl Device {
             filter_length: 3,
             count_bits: 2,
             mappings: [Mapping::EMPTY; MAPPINGS],
+            watches: Watches::EMPTY,
         }
     }
 
@@ -206,6 +209,7 @@ impl Machine for Device {
                 _ => {
                     self.error_behaviour = 0;
                     self.mappings = [Mapping::EMPTY; MAPPINGS];
+                    self.watches = Watches::EMPTY;
                     self.change_node(PRE_OPERATIONAL, self.causes & !COMMUNICATION_LOSS);
                 }
             }
@@ -253,47 +257,26 @@ impl Machine for Device {
     }
 
     fn receive(&mut self, message: Message, frame: &[u8]) -> Answer {
-        let mapping = self.mappings[message as usize];
-        let Some(mapped) = frame.get(..mapping.bytes()).filter(|_| self.state == OPERATIONAL) else {
-            return Answer::default();
-        };
-        let mut bytes = [0; 8];
-        bytes[..mapped.len()].copy_from_slice(mapped);
-        let mut rest = u64::from_le_bytes(bytes);
-        for Part { kind, sub, bits } in mapping.parts() {
-            // Bits above the entry's are cut off where it is stored.
-            match kind {
-                OUTPUT_VALUE => self.kept[usize::from(sub - 1)] = rest as i16,
-                _ => self.digital_store(kind, sub, rest as u32),
-            }
-            rest >>= bits;
-        }
-        Answer::default()
+        self.obey(message, frame)
     }
 
     fn transmit(&mut self, message: Message, frame: &mut [u8]) -> Answer {
-        let Ok(frame) = <&mut [u8; 8]>::try_from(frame) else {
-            return Answer::refused(5);
-        };
-        if self.state != OPERATIONAL {
-            return Answer::default();
-        }
-        let mapping = self.mappings[FIRST_TRANSMIT + message as usize];
-        let (mut all, mut start) = (0u64, 0);
-        for Part { kind, sub, bits } in mapping.parts() {
-            let value = match kind {
-                VALUE => u32::from(self.values[usize::from(sub - 1)] as u16),
-                _ => self.digital_value(kind, sub),
-            };
-            all |= u64::from(value) << start;
-            start += bits;
-        }
-        let count = mapping.bytes();
-        frame[..count].copy_from_slice(&all.to_le_bytes()[..count]);
-        Answer { count, ..Answer::default() }
+        self.send(message, frame)
     }
 
     fn request(&mut self, request: &[u8], reply: &mut [u8]) -> Answer {
         self.serve(request, reply)
+    }
+
+    fn heartbeat(&mut self, node: u8) -> Answer {
+        self.watches.heartbeat(node);
+        Answer::default()
+    }
+
+    fn elapsed(&mut self, milliseconds: u32) -> Answer {
+        match self.watches.expire(milliseconds) {
+            true => self.raise(Cause::CommunicationLoss),
+            false => Answer::default(),
+        }
     }
 }

@@ -42,6 +42,7 @@ impl Device {
             DEVICE_TYPE => 0x000F_0191,
             ERROR_REGISTER => [0, 0x01, 0x11, 0x11][usize::from(self.causes)],
             FILTER_LENGTH => u32::from(self.filter_length),
+            WATCH => self.watches.value(n),
             _ => u32::from(self.error_behaviour),
         }
     }
@@ -53,6 +54,7 @@ impl Device {
             DIGITAL..DIGITAL_INTERRUPTS if (kind - DIGITAL) % 4 == 0 => 1,
             DIGITAL_INTERRUPTS | ANALOGUE_INTERRUPTS | OUTPUT_MODE => 1,
             SELECTION => 31,
+            WATCH => 0x00FF_FFFF,
             ERROR_BEHAVIOUR => 2,
             _ => u32::MAX,
         };
@@ -77,6 +79,7 @@ impl Device {
                 self.filter_length = value as u8;
                 self.count_bits = self.count_bits.max((32 - value.leading_zeros()) as u8);
             }
+            WATCH => return self.watches.write(n, value),
             _ => self.error_behaviour = value as u8,
         }
         0

@@ -20,9 +20,10 @@ pub const DEVICE_TYPE: u8 = 58;
 pub const ERROR_REGISTER: u8 = 59;
 pub const ERROR_BEHAVIOUR: u8 = 60;
 pub const FILTER_LENGTH: u8 = 61;
+pub const WATCH: u8 = 62;
 /// 1600 to 1603, then 1A00 to 1A03.
-pub const MAPPING: u8 = 62;
-const KINDS_ALL: usize = 70;
+pub const MAPPING: u8 = 63;
+const KINDS_ALL: usize = 71;
 
 pub const fn kinds() -> [u8; 0x445] {
     let indices: [[usize; 4]; 11] = [
@@ -84,6 +85,7 @@ pub const fn shapes() -> [(u8, u8); KINDS_ALL] {
     shapes[OUTPUT_ERROR as usize] = (8, 4);
     shapes[DEVICE_TYPE as usize] = (0, 4);
     shapes[ERROR_BEHAVIOUR as usize] = (1, 1);
+    shapes[WATCH as usize] = (4, 4);
     let mut mapping = MAPPING as usize;
     while mapping < KINDS_ALL {
         shapes[mapping] = (8, 4);
@@ -100,6 +102,7 @@ pub fn kind(index: u16) -> u8 {
         None => match index {
             0x1000 => DEVICE_TYPE,
             0x1001 => ERROR_REGISTER,
+            0x1016 => WATCH,
             0x1029 => ERROR_BEHAVIOUR,
             0x1600..=0x1603 => MAPPING + (index - 0x1600) as u8,
             0x1A00..=0x1A03 => MAPPING + 4 + (index - 0x1A00) as u8,

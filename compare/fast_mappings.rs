@@ -1,6 +1,8 @@
 //! Item 1 of document 02 for speed: what an entry names is found when it is written, the length of a
 //! mapping when its count is written, and a frame is one number of 64 bits.
 
+use crate::calls::{Answer, Message};
+use crate::fast::{Device, OPERATIONAL};
 use crate::fast_kinds::*;
 
 /// The four of receive, then the four of transmit.
@@ -19,10 +21,10 @@ pub struct Mapping {
 
 /// What an entry says, its index as a kind.
 #[derive(Clone, Copy)]
-pub struct Part {
-    pub kind: u8,
-    pub sub: u8,
-    pub bits: u32,
+struct Part {
+    kind: u8,
+    sub: u8,
+    bits: u32,
 }
 
 fn part(entry: u32, kind: u8) -> Part {
@@ -79,13 +81,56 @@ impl Mapping {
         0
     }
 
-    pub fn bytes(&self) -> usize {
+    fn bytes(&self) -> usize {
         usize::from(self.bytes)
     }
 
     /// Without the entries of 0.
-    pub fn parts(&self) -> impl Iterator<Item = Part> + '_ {
+    fn parts(&self) -> impl Iterator<Item = Part> + '_ {
         let entries = self.entries.iter().zip(&self.kinds).take(usize::from(self.count));
         entries.filter(|(entry, _)| **entry != 0).map(|(entry, kind)| part(*entry, *kind))
+    }
+}
+
+impl Device {
+    pub fn obey(&mut self, message: Message, frame: &[u8]) -> Answer {
+        let mapping = self.mappings[message as usize];
+        let Some(mapped) = frame.get(..mapping.bytes()).filter(|_| self.state == OPERATIONAL) else {
+            return Answer::default();
+        };
+        let mut bytes = [0; 8];
+        bytes[..mapped.len()].copy_from_slice(mapped);
+        let mut rest = u64::from_le_bytes(bytes);
+        for Part { kind, sub, bits } in mapping.parts() {
+            // Bits above the entry's are cut off where it is stored.
+            match kind {
+                OUTPUT_VALUE => self.kept[usize::from(sub - 1)] = rest as i16,
+                _ => self.digital_store(kind, sub, rest as u32),
+            }
+            rest >>= bits;
+        }
+        Answer::default()
+    }
+
+    pub fn send(&self, message: Message, frame: &mut [u8]) -> Answer {
+        let Ok(frame) = <&mut [u8; 8]>::try_from(frame) else {
+            return Answer::refused(5);
+        };
+        if self.state != OPERATIONAL {
+            return Answer::default();
+        }
+        let mapping = self.mappings[FIRST_TRANSMIT + message as usize];
+        let (mut all, mut start) = (0u64, 0);
+        for Part { kind, sub, bits } in mapping.parts() {
+            let value = match kind {
+                VALUE => u32::from(self.values[usize::from(sub - 1)] as u16),
+                _ => self.digital_value(kind, sub),
+            };
+            all |= u64::from(value) << start;
+            start += bits;
+        }
+        let count = mapping.bytes();
+        frame[..count].copy_from_slice(&all.to_le_bytes()[..count]);
+        Answer { count, ..Answer::default() }
     }
 }

@@ -9,7 +9,7 @@ pub struct Device {
     flags: [bool; 12],
     words: [u64; 40],
     limits: [i32; 32],
-    deltas: [u32; 120],
+    deltas: [u32; 128],
     values: [i16; 56],
 }
 
@@ -55,6 +55,8 @@ unsafe extern "C" {
     fn io401_request_arrays(
         device: *mut Device, request: *const u8, request_length: usize, reply: *mut u8, reply_length: usize,
     ) -> Request;
+    fn io401_heartbeat_arrays(device: *mut Device, node: u8) -> u32;
+    fn io401_elapsed_arrays(device: *mut Device, milliseconds: u32) -> u32;
 }
 
 // Every pointer is that of a live device or slice, and no two overlap.
@@ -76,7 +78,7 @@ fn pair_and_place(message: Message) -> (bool, bool) {
 
 impl Machine for Device {
     fn create(number: u8) -> (u32, Device) {
-        let mut d = Device { octets: [0; 22], flags: [false; 12], words: [0; 40], limits: [0; 32], deltas: [0; 120], values: [0; 56] };
+        let mut d = Device { octets: [0; 22], flags: [false; 12], words: [0; 40], limits: [0; 32], deltas: [0; 128], values: [0; 56] };
         let refused = call!(io401_create_arrays, &mut d, number);
         (refused, d)
     }
@@ -132,5 +134,13 @@ impl Machine for Device {
         let (r, a) = (request.as_ptr(), reply.as_mut_ptr());
         let done = call!(io401_request_arrays, self, r, request.len(), a, reply.len());
         Answer { count: done.length, ..Answer::refused(done.number) }
+    }
+
+    fn heartbeat(&mut self, node: u8) -> Answer {
+        Answer::refused(call!(io401_heartbeat_arrays, self, node))
+    }
+
+    fn elapsed(&mut self, milliseconds: u32) -> Answer {
+        Answer::refused(call!(io401_elapsed_arrays, self, milliseconds))
     }
 }

@@ -4,7 +4,8 @@
 use crate::calls::{Call, Cause, Lent};
 use crate::lists_filters::Run;
 use crate::lists_mappings::Plans;
-use crate::lists_objects::{objects, Object, DIGITAL_OBJECTS};
+use crate::lists_objects::{objects, Object, DEVICE_WIDE_OBJECTS, DIGITAL_OBJECTS};
+use crate::lists_watched::Watches;
 
 /// SplitMix64.
 pub struct Random(u64);
@@ -41,6 +42,7 @@ pub struct Source {
     pub random: Random,
     pub plans: Plans,
     pub run: Run,
+    pub watches: Watches,
     pub objects: Vec<Object>,
     number: u8,
     /// Commands mostly start the node, so that mappings last; in other lists any command comes as often.
@@ -58,6 +60,7 @@ impl Source {
             random,
             plans: Plans::new(),
             run: Run::none(),
+            watches: Watches::none(),
             objects: objects(),
             number,
             steady,
@@ -76,6 +79,7 @@ impl Source {
             return self.odd_request();
         }
         let call = self.call_without_server();
+        self.watches.take(&call, self.number);
         self.perhaps_requested(call)
     }
 
@@ -87,6 +91,9 @@ impl Source {
         if self.run.is_on() && self.random.chance(85) {
             return self.run_call();
         }
+        if self.watches.are_busy() && self.random.chance(80) {
+            return self.watch_call();
+        }
         match self.random.below(100) {
             0..22 => self.write(),
             22..36 => self.read(),
@@ -96,6 +103,7 @@ impl Source {
             62..65 => Call::Clear(self.cause()),
             65..71 => self.drive(),
             71..74 if !self.run.is_on() => self.filter_call(),
+            74..82 => self.watch_call(),
             _ => self.mapping_call(),
         }
     }
@@ -127,7 +135,7 @@ impl Source {
         let at = match self.random.below(10) {
             0..5 => self.random.below(DIGITAL_OBJECTS),
             5..9 => DIGITAL_OBJECTS + self.random.below(10),
-            _ => DIGITAL_OBJECTS + 10 + self.random.below(7),
+            _ => DIGITAL_OBJECTS + 10 + self.random.below(DEVICE_WIDE_OBJECTS),
         };
         let mut object = self.objects[at];
         if self.random.chance(3) {
@@ -178,6 +186,10 @@ impl Source {
             0x1029 => self.random.pick(&[0, 0, 1, 1, 2, 2, 3]),
             0x6005 | 0x6423 => self.random.pick(&[1, 1, 1, 1, 1, 1, 0, 2]),
             0x6443 => self.random.pick(&[0, 0, 1, 1, 2]),
+            0x1016 => {
+                let at = self.random.below(4);
+                self.watch_value(at)
+            }
             0x2003 => u32::from(self.filter_length()),
             0x6421 => {
                 let one = 1 << self.random.below(5);
@@ -265,6 +277,10 @@ impl Source {
         };
         let any = self.random.next() as u8;
         let node = self.random.pick(&[0, 0, self.number, self.number, self.number, any & 127, any]);
+        self.command_of(code, node)
+    }
+
+    pub fn command_of(&mut self, code: u8, node: u8) -> Call {
         let obeyed = node == 0 || node == self.number;
         if obeyed && matches!(code, 129 | 130) {
             self.plans.forget();

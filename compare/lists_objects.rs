@@ -12,8 +12,10 @@ pub struct Object {
 
 /// How many digital objects stand first.
 pub const DIGITAL_OBJECTS: usize = 44;
+/// How many stand behind those of the analogue channels, before the mappings.
+pub const DEVICE_WIDE_OBJECTS: usize = 8;
 
-/// Every object of document 01 and Item 2, then the mappings.
+/// Every object of document 01 and Items 2 and 5, then the mappings.
 pub fn objects() -> Vec<Object> {
     let mut all = Vec::new();
     let one_bit = [0x6020, 0x6030, 0x6038, 0x6050, 0x6060, 0x6070, 0x6220, 0x6240, 0x6250, 0x6260, 0x6270];
@@ -32,7 +34,7 @@ pub fn objects() -> Vec<Object> {
     for (index, size) in [(0x6411, 2), (0x6443, 1), (0x6444, 4)] {
         all.push(Object { index, last: 8, size });
     }
-    for (index, last, size) in [(0x1000, 0, 4), (0x1029, 1, 1), (0x6422, 1, 4)] {
+    for (index, last, size) in [(0x1000, 0, 4), (0x1016, 4, 4), (0x1029, 1, 1), (0x6422, 1, 4)] {
         all.push(Object { index, last, size });
     }
     all.extend([0x1001, 0x6005, 0x6423, 0x2003].map(|index| Object { index, last: 0, size: 1 }));

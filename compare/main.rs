@@ -1,5 +1,6 @@
 //! Plays random lists on both implementations and on the static library, and compares every answer, every
-//! lent buffer, and from time to time every entry, every driven output and about what each filter has counted.
+//! lent buffer, and from time to time every entry, every driven output, about what each filter has counted and
+//! what each watch has added up.
 
 mod calls;
 mod fast;
@@ -8,6 +9,7 @@ mod fast_kinds;
 mod fast_mappings;
 mod fast_samples;
 mod fast_server;
+mod fast_watch;
 mod library;
 mod lists;
 mod lists_entries;
@@ -15,6 +17,8 @@ mod lists_filters;
 mod lists_mappings;
 mod lists_objects;
 mod lists_server;
+mod lists_watch;
+mod lists_watched;
 mod paper;
 mod paper_entries;
 mod paper_machines;
@@ -22,16 +26,21 @@ mod paper_mappings;
 mod paper_node;
 mod paper_objects;
 mod paper_server;
+mod paper_watch;
 mod read_back;
 mod sweep_requests;
+mod sweep_watch;
 mod tally;
+mod tally_watch;
 
 use calls::{Answer, Call, Lent, Machine};
 use lists::{Random, Source};
 use lists_objects::Object;
 use read_back::{read_back, Told};
 use sweep_requests::sweep_requests;
+use sweep_watch::sweep_watch;
 use tally::Tally;
+use tally_watch::Met;
 
 const CALLS_OF_A_LIST: u64 = 1000;
 
@@ -98,6 +107,13 @@ impl All {
         (played, answer)
     }
 
+    /// What an elapsed call would meet.
+    fn met(&self) -> Met {
+        let node = &self.paper.node;
+        let left = self.paper.watches.map(|watch| watch.left());
+        Met { left, loss: node.communication_loss, error_behaviour: node.error_behaviour }
+    }
+
     fn read_back(&self, objects: &[Object], place: (u64, u64)) {
         let all = read_back(&self.paper, objects);
         self.fast.compare_all(&all, objects, place);
@@ -110,7 +126,11 @@ fn play_list(seed: u64, calls: u64, objects: &[Object], tally: &mut Tally) {
     let mut pauses = Random::new(!seed);
     let mut devices = All::create(source.number());
     for at in 0..calls {
-        let (played, answer) = devices.play(source.call(), (seed, at));
+        let call = source.call();
+        if let Call::Elapsed { milliseconds } = call {
+            tally.watch.take(milliseconds, &devices.met());
+        }
+        let (played, answer) = devices.play(call, (seed, at));
         tally.take(&played, &answer);
         if at + 1 == calls || pauses.below(400) == 0 {
             devices.read_back(objects, (seed, at));
@@ -221,9 +241,11 @@ fn main() {
     }
     let (swept, entries, lengths) = (sweep(&objects), sweep_entries(&objects), sweep_lengths());
     let requests = sweep_requests(&objects);
+    let watches = sweep_watch(&objects);
     print!("compare: {} calls in {lists} lists (seeds {first} to {}), ", tally.calls, first + lists - 1);
     print!("{tally}, ");
     print!("{swept} calls on every index, {entries} with every index as an entry, ");
     print!("{lengths} with every filter length over every count, ");
-    println!("{requests} requests with every first byte, index and length: none differs");
+    print!("{requests} requests with every first byte, index and length, ");
+    println!("{watches} calls with every node and time of a watch: none differs");
 }

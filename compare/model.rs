@@ -8,6 +8,7 @@ mod calls;
 mod notation;
 mod notation_messages;
 mod notation_server;
+mod notation_watch;
 mod paper;
 mod paper_entries;
 mod paper_machines;
@@ -15,6 +16,8 @@ mod paper_mappings;
 mod paper_node;
 mod paper_objects;
 mod paper_server;
+#[allow(dead_code)]
+mod paper_watch;
 #[allow(dead_code)]
 mod play_expected;
 #[allow(dead_code)]

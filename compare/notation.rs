@@ -4,6 +4,7 @@
 use crate::calls::{Answer, Cause, Machine, Message};
 use crate::notation_messages::{message_call, Complaint};
 use crate::notation_server::request_call;
+use crate::notation_watch::watch_call;
 
 const MOST_BYTES_OF_A_LINE: usize = 1024;
 pub const MOST_ITEMS_OF_A_BUFFER: usize = 64;
@@ -23,6 +24,8 @@ pub enum Asked {
     Receive { message: Message, frame: Vec<u8> },
     Transmit { message: Message, frame: Vec<u8> },
     Request { request: Vec<u8>, reply: Vec<u8> },
+    Heartbeat(u8),
+    Elapsed(u32),
 }
 
 pub enum Line<'a> {
@@ -73,7 +76,7 @@ pub fn understand(line: &[u8]) -> Line<'_> {
             Line::Expects(answer_words(&said[sign + 1..]))
         }
         Some(_) => {
-            let later = message_call(&words).or_else(|| request_call(&words));
+            let later = message_call(&words).or_else(|| request_call(&words)).or_else(|| watch_call(&words));
             match later.unwrap_or_else(|| call_of(&words).ok_or(None)) {
                 Ok(asked) => Line::Call(asked),
                 Err(complaint) => Line::NotUnderstood(complaint),
@@ -194,7 +197,7 @@ fn hexadecimal(digits: &[u8], most: usize) -> Option<u32> {
 }
 
 /// Unsigned, so that it takes no sign.
-fn number_of_a_byte(word: &[u8]) -> Option<u8> {
+pub fn number_of_a_byte(word: &[u8]) -> Option<u8> {
     u8::try_from(decimal(word)?).ok()
 }
 
@@ -207,15 +210,15 @@ fn signed_number(word: &[u8]) -> Option<i16> {
     i16::try_from(value).ok()
 }
 
-pub fn decimal(digits: &[u8]) -> Option<i32> {
+pub fn decimal(digits: &[u8]) -> Option<i64> {
     if digits.is_empty() {
         return None;
     }
     let mut value = 0;
     for digit in digits {
-        let next = 10 * value + char::from(*digit).to_digit(10)? as i32;
+        let next = 10 * value + i64::from(char::from(*digit).to_digit(10)?);
         // Any number of digits may follow, and no type of the notation holds so much.
-        value = next.min(100_000);
+        value = next.min(10_000_000_000);
     }
     Some(value)
 }
@@ -238,6 +241,8 @@ impl Asked {
             Asked::Receive { message, frame } => device.receive(*message, frame),
             Asked::Transmit { message, frame } => device.transmit(*message, frame),
             Asked::Request { request, reply } => device.request(request, reply),
+            Asked::Heartbeat(node) => device.heartbeat(*node),
+            Asked::Elapsed(milliseconds) => device.elapsed(*milliseconds),
         }
     }
 

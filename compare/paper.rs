@@ -1,4 +1,4 @@
-//! Document 01 and Items 1 to 3 of document 02 line by line: a machine for each line and each channel,
+//! Document 01 and Items 1 to 3 and 5 of document 02 line by line: a machine for each line and each channel,
 //! which takes every call by itself, as the paper reads. Slow on purpose.
 
 use crate::calls::{Answer, Cause, Machine, Message};
@@ -6,6 +6,7 @@ use crate::paper_machines::{AnalogueInput, AnalogueOutput, DigitalInput, Digital
 use crate::paper_mappings::{Direction, Mapping};
 use crate::paper_node::{DeviceWide, Node, State};
 use crate::paper_objects::{object, Object};
+use crate::paper_watch::{node_is_taken, Watch};
 
 #[derive(Clone)]
 pub struct Device {
@@ -16,6 +17,7 @@ pub struct Device {
     pub analogue_outputs: [AnalogueOutput; 8],
     receive_mappings: [Mapping; 4],
     transmit_mappings: [Mapping; 4],
+    pub watches: [Watch; 4],
 }
 
 impl Device {
@@ -28,6 +30,7 @@ impl Device {
             analogue_outputs: [AnalogueOutput::fresh(number); 8],
             receive_mappings: [Mapping::empty(); 4],
             transmit_mappings: [Mapping::empty(); 4],
+            watches: [Watch::empty(); 4],
         }
     }
 
@@ -42,6 +45,7 @@ impl Device {
         self.analogue_outputs.iter_mut().for_each(|m| m.take(news));
         self.receive_mappings.iter_mut().for_each(|m| m.take(news));
         self.transmit_mappings.iter_mut().for_each(|m| m.take(news));
+        self.watches.iter_mut().for_each(|m| m.take(news));
     }
 
     pub fn mapping(&mut self, direction: Direction, message: usize) -> &mut Mapping {
@@ -67,6 +71,11 @@ impl Device {
             Object::Mapping(direction, message) => {
                 self.mapping(direction, message).value_refusal(direction, sub, value)
             }
+            // "Two used entries for one node: 06040043, after the value check."
+            Object::HeartbeatWatch => object.value_refusal(value).or_else(|| {
+                let taken = node_is_taken(&self.watches, usize::from(sub) - 1, value);
+                taken.then_some(0x0604_0043)
+            }),
             _ => object.value_refusal(value),
         }
     }
@@ -217,5 +226,22 @@ impl Machine for Device {
 
     fn request(&mut self, request: &[u8], reply: &mut [u8]) -> Answer {
         self.serve(request, reply)
+    }
+
+    fn heartbeat(&mut self, node: u8) -> Answer {
+        self.watches.iter_mut().for_each(|watch| watch.heartbeat(node));
+        Answer::default()
+    }
+
+    fn elapsed(&mut self, milliseconds: u32) -> Answer {
+        let mut expired = false;
+        for watch in &mut self.watches {
+            expired |= watch.elapsed(milliseconds);
+        }
+        // "raises communication loss in that very call"; "The machines hear an expiry as a raise".
+        if expired {
+            self.tell_every_machine(DeviceWide::Raise(Cause::CommunicationLoss));
+        }
+        Answer::default()
     }
 }

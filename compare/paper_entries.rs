@@ -81,6 +81,7 @@ impl Device {
             Object::InputChannel(index) => self.input_value(index, usize::from(sub) - 1),
             Object::OutputChannel(index) => self.output_value(index, usize::from(sub) - 1),
             Object::Mapping(direction, message) => self.mapping(direction, message).value(sub),
+            Object::HeartbeatWatch => self.watches[usize::from(sub) - 1].value,
         }
     }
 
@@ -143,6 +144,7 @@ impl Device {
                 machine.follow();
             }
             Object::Mapping(direction, message) => self.mapping(direction, message).store(sub, value),
+            Object::HeartbeatWatch => self.watches[usize::from(sub) - 1].store(value),
             _ => unreachable!(),
         }
     }

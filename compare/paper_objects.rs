@@ -1,4 +1,4 @@
-//! The object dictionary of document 01 and Items 1 and 2 of document 02: what an index names, its
+//! The object dictionary of document 01 and Items 1, 2 and 5 of document 02: what an index names, its
 //! entries, their sizes and values.
 
 use crate::paper_mappings::Direction;
@@ -50,6 +50,7 @@ pub enum Object {
     OutputChannel(u16),
     /// 1600 to 1603 and 1A00 to 1A03, each direction's counted from 0.
     Mapping(Direction, usize),
+    HeartbeatWatch,
 }
 
 pub fn object(index: u16) -> Option<Object> {
@@ -67,6 +68,7 @@ pub fn object(index: u16) -> Option<Object> {
         0x6005 => Some(Object::DigitalInterrupts),
         0x6423 => Some(Object::AnalogueInterrupts),
         0x2003 => Some(Object::FilterLength),
+        0x1016 => Some(Object::HeartbeatWatch),
         0x6422 => Some(Object::InterruptSource),
         0x6401 | 0x6421 | 0x6424..=0x6428 => Some(Object::InputChannel(index)),
         0x6411 | 0x6443 | 0x6444 => Some(Object::OutputChannel(index)),
@@ -83,6 +85,7 @@ impl Object {
             Object::Lines(_, width) => Some((128 / width) as u8),
             Object::InputChannel(_) => Some(16),
             Object::OutputChannel(_) => Some(8),
+            Object::HeartbeatWatch => Some(4),
             Object::ErrorBehaviour | Object::InterruptSource => Some(1),
             _ => None,
         }
@@ -115,7 +118,7 @@ impl Object {
         }
         match self {
             Object::Lines(_, width) => width.div_ceil(8),
-            Object::DeviceType | Object::InterruptSource => 4,
+            Object::DeviceType | Object::InterruptSource | Object::HeartbeatWatch => 4,
             Object::InputChannel(0x6401) | Object::OutputChannel(0x6411) => 2,
             Object::InputChannel(0x6421) | Object::OutputChannel(0x6443) => 1,
             Object::InputChannel(_) | Object::OutputChannel(_) => 4,
@@ -124,7 +127,7 @@ impl Object {
         }
     }
 
-    /// Without Item 1's; what a mapping takes depends on what stands in it.
+    /// Without what depends on the entries that stand there: Item 1's, and Item 5's two entries for one node.
     pub fn value_refusal(self, value: u32) -> Option<u32> {
         let outside = match self {
             Object::Lines(_, 1) => value > 1,
@@ -133,6 +136,8 @@ impl Object {
             Object::FilterLength => value == 0,
             Object::OutputChannel(0x6443) => value > 1,
             Object::InputChannel(0x6421) => value & 0xE0 != 0,
+            // "Bits 24 to 31 set: 06090030."
+            Object::HeartbeatWatch => value >> 24 != 0,
             _ => false,
         };
         if outside {

@@ -16,7 +16,8 @@ fn played<M: Machine>(mut call: Call, device: &mut M, told: &mut Told) {
 
 /// What an implementation says of all its entries, outputs, mappings and counts, without being changed by
 /// it: a copy is asked for its state, taken out of the stopped one, read, driven, and driven again with no cause
-/// present; then it is started, each message is sent and obeyed, and its lines differ until they settle.
+/// present; its watches are timed; then it is started, each message is sent and obeyed, and its lines differ
+/// until they settle.
 pub fn read_back<M: Machine>(device: &M, objects: &[Object]) -> Told {
     let drive = Call::Drive { lines: Lent::new([0; 24], 16), channels: Lent::new([0; 24], 8) };
     let mut told = (Vec::with_capacity(2000), Vec::new());
@@ -33,6 +34,7 @@ pub fn read_back<M: Machine>(device: &M, objects: &[Object]) -> Told {
     copy.clear(Cause::InternalFailure);
     copy.clear(Cause::CommunicationLoss);
     played(drive, &mut copy, &mut told);
+    (1..=4).for_each(|sub| time_a_watch(&copy, sub, &mut told));
     copy.command(1, 0);
     for message in Message::ALL {
         let bytes = std::array::from_fn(|at| 0x5A ^ (at as u8) << 4 ^ message as u8);
@@ -68,5 +70,29 @@ fn count_on<M: Machine>(copy: &mut M, told: &mut Told) {
         told.0.push(copy.write(0x2003, 0, &[length]));
         played(sample, copy, told);
         told.0.extend((1..=4).map(|sub| copy.read(0x6120, sub)));
+    }
+}
+
+/// No entry reads a sum, so the entry is left alone, and how long it takes to expire is found bit by bit: one
+/// more than `passed` in the end, or for ever where it waits for a first heartbeat.
+fn time_a_watch<M: Machine>(copy: &M, sub: u8, told: &mut Told) {
+    let mut alone = copy.clone();
+    // Not stopped by the loss, so that it can be read.
+    alone.write(0x1029, 1, &[1]);
+    for other in (1..=4).filter(|other| *other != sub) {
+        told.0.push(alone.write(0x1016, other, &[0; 4]));
+    }
+    let mut passed = 0;
+    for bit in (0..=16).rev() {
+        let mut later = alone.clone();
+        told.0.push(later.elapsed(passed + (1 << bit)));
+        let register = later.read(0x1001, 0);
+        told.0.push(register);
+        if register.value & 0x10 == 0 {
+            passed += 1 << bit;
+        }
+        if passed == 1 << 16 {
+            return;
+        }
     }
 }

@@ -6,7 +6,7 @@ use crate::lists_objects::Object;
 use crate::{sample_of, All};
 
 /// Readable, writable, read-only and absent ones, of each size, and those that change more than an entry.
-const ENTRIES: [(u16, u8); 28] = [
+const ENTRIES: [(u16, u8); 31] = [
     (0x6000, 1),
     (0x6100, 8),
     (0x6120, 4),
@@ -24,6 +24,9 @@ const ENTRIES: [(u16, u8); 28] = [
     (0x6422, 0),
     (0x6422, 1),
     (0x6005, 0),
+    (0x1016, 0),
+    (0x1016, 1),
+    (0x1016, 3),
     (0x1029, 1),
     (0x2003, 0),
     (0x1600, 0),
@@ -58,7 +61,8 @@ fn samples() -> [Call; 3] {
     [Call::Sample { digital, analogue, events }, sample_of(0x0123_4567), sample_of(u128::MAX << 5)]
 }
 
-/// Nothing stands at its default: lines settled and counting, outputs, error values, source bits, mappings.
+/// Nothing stands at its default: lines settled and counting, outputs, error values, source bits, mappings, a
+/// watch.
 fn set_up() -> All {
     let mut devices = All::create(5);
     let mut calls = vec![Call::Command { code: 1, node: 5 }, write(0x6423, 0, 1, 1), write(0x2003, 0, 9, 1)];
@@ -75,6 +79,9 @@ fn set_up() -> All {
         write(0x1A01, 1, 0x6000_0108, 4),
         write(0x1A01, 0, 1, 1),
     ]);
+    // Of the node that the first of DATA names, so that another entry cannot have it.
+    calls.extend([write(0x1016, 3, 0x0003_03E8, 4), Call::Heartbeat { node: 3 }]);
+    calls.push(Call::Elapsed { milliseconds: 10 });
     calls.extend(samples());
     calls.push(write(0x6123, 1, 0xFFFF, 4));
     // The third is as the lines have settled, and would end their counts.

@@ -40,6 +40,13 @@ pub fn lists_of_everything() -> Vec<Named> {
         named("every pair of bytes as a first byte", every_pair(b"request ", b" 0 62 1 5 0 0 0")),
         named("every pair of bytes after a request", every_pair(b"request 40 0 62 1 0 0 0 0", b"")),
         named("every pair of bytes as a reply", every_pair(b"request 40 0 62 1 0 0 0 0 /", b"")),
+        named("every node and heartbeat", every_node_and_heartbeat()),
+        named("every spelling of elapsed time", every_spelling_of_elapsed_time()),
+        named("every pair of bytes as a heartbeat", every_pair(b"heartbeat ", b"")),
+        named("every pair of bytes after a heartbeat", every_pair(b"heartbeat 1", b"")),
+        named("every pair of bytes as elapsed time", every_pair(b"elapsed ", b"")),
+        named("every pair of bytes after the largest time", every_pair(b"elapsed 42949672", b"")),
+        named("every pair of bytes before a time", every_pair(b"elapsed", b"5")),
     ];
     lists.extend(every_start());
     lists
@@ -166,6 +173,46 @@ fn every_filter_length() -> Vec<u8> {
     for code in [1, 2, 128, 130, 129] {
         list += &format!("2003 = 7\ncommand {code} 0\n2003\n2003 = 5\npre-operational\n2003\n");
     }
+    list.into_bytes()
+}
+
+/// Numbers of nodes go beyond a byte; the register tells whether the entry has expired.
+fn every_node_and_heartbeat() -> Vec<u8> {
+    let mut list = String::from("create 5\nstart\n");
+    for node in (0..=300).chain([511, 512, 1000, 65_535, 65_536, 65_541]) {
+        let sub = 1 + node % 4;
+        list += &format!("1016:{sub} = A 0 {:X} 0\n1016:{sub}\nheartbeat {node}\n", node % 256);
+        list += "elapsed 9\n1001\nelapsed 1\n1001\nelapsed 10\nclear communication\n";
+        list += &format!("1016:{sub} = 0 0 0 0\nheartbeat 0{node}\n");
+        list += &format!("heartbeat {node} {node}\nheartbeat -{node}\n");
+    }
+    list.into_bytes()
+}
+
+/// Of times at the ends of what 16, 32 and 64 bits hold, right and wrong ones.
+fn every_spelling_of_elapsed_time() -> Vec<u8> {
+    let mut list = String::from("create 5\n1016:1 = FF FF 5 0\n");
+    let starts: [u128; 8] = [0, 9, 65_530, 99_995, 4_294_967_290, 9_999_999_995, 1 << 63, (1 << 64) - 6];
+    for time in starts.into_iter().flat_map(|start| start..start + 12) {
+        let zeros = "0".repeat(30);
+        for spelled in [
+            format!("{time}"),
+            format!("0{time}"),
+            format!("{zeros}{time}"),
+            format!("{time}0"),
+            format!("-{time}"),
+            format!("+{time}"),
+            format!("{time} 0"),
+            format!("{time} # 0"),
+            format!("{time}."),
+            format!("{time:#x}"),
+            format!("\t {time} \t"),
+        ] {
+            list += &format!("heartbeat 5\nelapsed {spelled}\n1001\nelapsed 65534\n1001\nelapsed 1\n1001\n");
+            list += "clear communication\n";
+        }
+    }
+    list += "elapsed\nheartbeat\nelapsed \nheartbeat#\nElapsed 5\nHEARTBEAT 5\nelapsed5\nheartbeat5\n";
     list.into_bytes()
 }
 

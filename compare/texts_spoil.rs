@@ -12,6 +12,7 @@ const ODD_WORDS: &[u8] = b"-32769 -32768 -32767 32767 32768 65535 65536 -65536 1
     6200.1 6200:1= =6200:1 ADD f FG G 100 0FF 0xF Fh .. = == =01 01= / // /1 1/ # ##x start drive internal \
     communication interna internals all Internal pre- reset reset_node \t \r \0 \x0B \xFF\xFE \xC2\xA0 \
     1 2 3 4 5 04 05 receive transmit receives transmi frame mapping request reply reques requests \
+    heartbeat elapsed heartbeats heartbea elapse elapseds watch 99999999999 10000000000 42949672950 \
     > >> >0 0> ( ) (x) 0( (0 ? ! line expected events lines \xEF\xBB\xBF \xEF\xBB \xBF 0\t= \t0";
 /// What a byte is replaced by where any byte would seldom hurt.
 const TELLING_BYTES: &[u8] = b" #=/:-+>()0123456789abcdefABCDEFgGxz\t\r\0\x7F\x80\xEF\xBB\xBF\xFF\n";
@@ -23,7 +24,7 @@ pub fn odd_word(random: &mut Random) -> Word {
         1 => [vec![b'0'; many], b"7".to_vec()].concat(),
         2 => [b"-".to_vec(), vec![b'0'; many], b"7".to_vec()].concat(),
         3 => vec![random.next() as u8],
-        4 => decimal(random.below(300) as i32, random),
+        4 => decimal(random.below(300) as i64, random),
         _ => {
             let words: Vec<&[u8]> = ODD_WORDS.split(|byte| *byte == b' ').collect();
             random.pick(&words).to_vec()

@@ -20,7 +20,7 @@ fn hexadecimal(value: u32, most: usize, random: &mut Random) -> Word {
     word
 }
 
-pub fn decimal(value: i32, random: &mut Random) -> Word {
+pub fn decimal(value: i64, random: &mut Random) -> Word {
     let sign = if value < 0 { "-" } else { "" };
     let zeros = if random.chance(3) { random.below(30) } else { 0 };
     format!("{sign}{}{}", "0".repeat(zeros), value.unsigned_abs()).into_bytes()
@@ -38,7 +38,7 @@ fn signed(number: i16, random: &mut Random) -> Word {
     if number == 0 && random.chance(1) {
         return b"-0".to_vec();
     }
-    decimal(i32::from(number), random)
+    decimal(i64::from(number), random)
 }
 
 /// A buffer now and then gets a length up to two above what the notation allows.
@@ -70,9 +70,9 @@ fn command(code: u8, node: u8, random: &mut Random) -> Vec<Word> {
         130 => b"reset-communication",
         _ => b"command",
     };
-    let node_word = decimal(i32::from(node), random);
+    let node_word = decimal(i64::from(node), random);
     if name == b"command" || random.chance(30) {
-        return vec![b"command".to_vec(), decimal(i32::from(code), random), node_word];
+        return vec![b"command".to_vec(), decimal(i64::from(code), random), node_word];
     }
     if node == 0 && random.chance(60) {
         return vec![name.to_vec()];
@@ -88,12 +88,12 @@ fn cause(cause: Cause) -> Word {
 }
 
 pub fn create(number: u8, random: &mut Random) -> Vec<Word> {
-    vec![b"create".to_vec(), decimal(i32::from(number), random)]
+    vec![b"create".to_vec(), decimal(i64::from(number), random)]
 }
 
 /// The number of a message, then bytes.
 fn message(name: &[u8], message: Message, frame: &[u8], random: &mut Random) -> Vec<Word> {
-    [vec![name.to_vec(), decimal(message as i32 + 1, random)], bytes(frame, random)].concat()
+    [vec![name.to_vec(), decimal(message as i64 + 1, random)], bytes(frame, random)].concat()
 }
 
 /// Eight bytes of 00 may be left out, and no byte at all is said by a slash.
@@ -165,5 +165,9 @@ pub fn words_of(call: &Call, random: &mut Random) -> Vec<Word> {
         }
         Call::Transmit { message, frame } => transmit(*message, frame.part(), random),
         Call::Request { request: asked, reply } => request(asked.part(), reply.part(), random),
+        Call::Heartbeat { node } => vec![b"heartbeat".to_vec(), decimal(i64::from(*node), random)],
+        Call::Elapsed { milliseconds } => {
+            vec![b"elapsed".to_vec(), decimal(i64::from(*milliseconds), random)]
+        }
     }
 }

@@ -1,12 +1,15 @@
 /*
  * A main loop over the device: a set-up list, then a tick for each row of the table below with a
  * sample, its events and the driven outputs, and a communication loss on the way. At the end a
- * received frame and one to be sent, by the mappings of the set-up list, and requests of a dealer's tool.
+ * received frame and one to be sent, by the mappings of the set-up list, requests of a dealer's tool, and
+ * the heartbeats of a drive controller, which come, stop and come again.
  */
 #include <io401.h>
 #include <stdio.h>
 
 #define NODE 5
+#define DRIVE 2 /* the node number of the drive controller */
+#define TICK_MILLISECONDS 100
 
 typedef struct setting {
     uint16_t index;
@@ -37,6 +40,7 @@ static const setting SET_UP[] = {
     {0x1A00, 1, IO401_MAPPING_ENTRY(0x6000, 1, 8), 4},  /* a frame to be sent tells inputs 1 to 8 .. */
     {0x1A00, 2, IO401_MAPPING_ENTRY(0x6401, 1, 16), 4}, /* .. and after them analogue input 1 */
     {0x1A00, 0, 2, 1},
+    {0x1016, 1, IO401_WATCH_ENTRY(DRIVE, 250), 4}, /* the drive controller is lost after 250 ms without a heartbeat */
     {0x6000, 1, 0x01, 1},   /* refused, as inputs are only read */
 };
 
@@ -134,6 +138,37 @@ static void serve(io401_device *device, const uint8_t *request, size_t length)
     }
 }
 
+/* A frame that came before a tick of the timer, 0 for none, and the bus as in `tick`. */
+typedef struct watch_tick {
+    uint16_t identifier;
+    int16_t bus;
+} watch_tick;
+
+/* Node 7, which no entry of 1016 names, goes on sending while the drive controller does not. */
+static const watch_tick WATCH_TICKS[] = {
+    {0, 0}, {0x700 + DRIVE, 0}, {0, 0}, {0x700 + DRIVE, 0}, {0x707, 0}, {0, 0}, {0x700 + DRIVE, 0}, {0x700 + DRIVE, 1},
+};
+
+/* A heartbeat comes with 0x700 plus its node's number. */
+static void hear(io401_device *device, uint16_t identifier)
+{
+    if (identifier > 0x700 && identifier < 0x780)
+        io401_heartbeat(device, (uint8_t)(identifier - 0x700));
+}
+
+/* The loss is raised by the device itself; the heartbeat that comes again does not clear it, the main loop does. */
+static void run_watch_tick(io401_device *device, size_t at)
+{
+    uint8_t lines[IO401_LINE_BYTES];
+    int16_t channels[IO401_ANALOGUE_OUTPUTS];
+    hear(device, WATCH_TICKS[at].identifier);
+    io401_elapsed(device, TICK_MILLISECONDS);
+    follow_bus(device, WATCH_TICKS[at].bus);
+    io401_drive(device, lines, IO401_LINE_BYTES, channels, IO401_ANALOGUE_OUTPUTS);
+    printf("watch %zu: frame %03X state %u error %02lX drives %02X %d\n", at, WATCH_TICKS[at].identifier,
+           io401_state(device), (unsigned long)io401_read(device, 0x1001, 0).value, lines[0], channels[0]);
+}
+
 int main(void)
 {
     io401_device device;
@@ -153,6 +188,8 @@ int main(void)
     transmit(&device);
     serve(&device, REQUESTS[0], IO401_REQUEST_BYTES);
     serve(&device, REQUESTS[1], IO401_REQUEST_BYTES);
+    for (size_t at = 0; at < sizeof WATCH_TICKS / sizeof WATCH_TICKS[0]; at++)
+        run_watch_tick(&device, at);
     io401_command(&device, IO401_STOP, NODE);
     show_entry(&device, 0x6200, 1);
     transmit(&device);

@@ -3,6 +3,7 @@
 #define PAPER_H
 
 #include "paper_mappings.h"
+#include "paper_watch.h"
 #include <stdbool.h>
 #include <stddef.h>
 #include <stdint.h>
@@ -30,7 +31,16 @@
 #define OUTPUT_CHANNELS 8u
 
 /* Which values a write may bring. */
-typedef enum rule { ANY, ZERO_OR_ONE, UP_TO_TWO, NOT_ZERO, LOW_FIVE_BITS, SIXTEEN_BITS_SIGNED, AS_MAPPED } rule;
+typedef enum rule {
+    ANY,
+    ZERO_OR_ONE,
+    UP_TO_TWO,
+    NOT_ZERO,
+    LOW_FIVE_BITS,
+    SIXTEEN_BITS_SIGNED,
+    AS_MAPPED,
+    AS_WATCHED
+} rule;
 
 typedef struct object {
     uint16_t index;
@@ -55,6 +65,7 @@ typedef struct object {
 static const object OBJECTS[] = {
     {0x1000, 0, 4, false, ANY, 0x000F0191},
     {0x1001, 0, 1, false, ANY, 0},
+    {0x1016, WATCHES, WATCH_BYTES, true, AS_WATCHED, 0},
     {0x1029, 1, 1, true, UP_TO_TWO, 0},
     FOUR_MAPPINGS(0x1600),
     FOUR_MAPPINGS(0x1A00),
@@ -147,9 +158,9 @@ static uint32_t refusal_of_read(bool stopped, uint16_t index, uint8_t sub)
     return sub > at->last ? SUB_INDEX_ABOVE : 0;
 }
 
-/* `maps` are the eight mappings as they stand. */
-static uint32_t refusal_of_write(bool stopped, const mapping *maps, uint16_t index, uint8_t sub, const uint8_t *bytes,
-                                 size_t length)
+/* `maps` are the eight mappings and `watches` the four entries of 1016 as they stand. */
+static uint32_t refusal_of_write(bool stopped, const mapping *maps, const watch *watches, uint16_t index, uint8_t sub,
+                                 const uint8_t *bytes, size_t length)
 {
     const object *at = listed_at(index);
     const uint32_t number = refusal_of_read(stopped, index, sub);
@@ -163,6 +174,8 @@ static uint32_t refusal_of_write(bool stopped, const mapping *maps, uint16_t ind
         return DATA_TOO_SHORT;
     if (at->takes == AS_MAPPED)
         return refusal_of_mapping_value(&maps[mapping_at(index)], index >= 0x1A00, sub, number_of(bytes, length));
+    if (at->takes == AS_WATCHED)
+        return refusal_of_watch(watches, sub, number_of(bytes, length));
     return refusal_of_value(at->takes, number_of(bytes, length));
 }
 
@@ -204,6 +217,8 @@ static const known_write KNOWN_WRITES[] = {
     {0x1A04, 9, 1, {9}, INDEX_NOT_LISTED}, {0x1400, 1, 4, {0}, INDEX_NOT_LISTED},
     {0x1800, 2, 1, {0}, INDEX_NOT_LISTED}, {0x2002, 0, 1, {3}, INDEX_NOT_LISTED},
     {0x2004, 0, 1, {3}, INDEX_NOT_LISTED}, {0x2000, 9, 0, {0}, INDEX_NOT_LISTED},
+    {0x1015, 1, 4, {100, 0, 5}, INDEX_NOT_LISTED}, {0x1017, 0, 2, {100}, INDEX_NOT_LISTED},
+    {0x1017, 5, 4, {100, 0, 5, 1}, INDEX_NOT_LISTED},
     /* sub-index alone, and over access, size and value */
     {0x6200, 0x11, 1, {0}, SUB_INDEX_ABOVE}, {0x6220, 0x81, 1, {0}, SUB_INDEX_ABOVE},
     {0x6320, 5, 4, {0}, SUB_INDEX_ABOVE}, {0x6411, 9, 2, {0}, SUB_INDEX_ABOVE},
@@ -215,7 +230,8 @@ static const known_write KNOWN_WRITES[] = {
     {0x1600, 9, 4, {8, 1, 0, 0x62}, SUB_INDEX_ABOVE}, {0x1A03, 9, 1, {9}, SUB_INDEX_ABOVE},
     {0x1603, 0xFF, 5, {1}, SUB_INDEX_ABOVE}, {0x2003, 1, 1, {5}, SUB_INDEX_ABOVE},
     {0x2003, 1, 1, {0}, SUB_INDEX_ABOVE}, {0x2003, 1, 2, {5}, SUB_INDEX_ABOVE},
-    {0x2003, 0xFF, 0, {0}, SUB_INDEX_ABOVE},
+    {0x2003, 0xFF, 0, {0}, SUB_INDEX_ABOVE}, {0x1016, 5, 4, {100, 0, 5}, SUB_INDEX_ABOVE},
+    {0x1016, 5, 5, {100, 0, 5, 1}, SUB_INDEX_ABOVE}, {0x1016, 0xFF, 0, {0}, SUB_INDEX_ABOVE},
     /* access alone, and over size and value */
     {0x6000, 1, 1, {0}, READ_ONLY_ENTRY}, {0x1000, 0, 4, {0x91, 1, 0xF}, READ_ONLY_ENTRY},
     {0x1001, 0, 1, {0}, READ_ONLY_ENTRY}, {0x6401, 1, 2, {0}, READ_ONLY_ENTRY},
@@ -224,6 +240,7 @@ static const known_write KNOWN_WRITES[] = {
     {0x6000, 1, 2, {0}, READ_ONLY_ENTRY}, {0x6401, 1, 1, {0}, READ_ONLY_ENTRY},
     {0x6020, 1, 1, {2}, READ_ONLY_ENTRY}, {0x6443, 0, 1, {2}, READ_ONLY_ENTRY},
     {0x1029, 0, 1, {3}, READ_ONLY_ENTRY}, {0x6444, 0, 4, {0, 0x80}, READ_ONLY_ENTRY},
+    {0x1016, 0, 1, {4}, READ_ONLY_ENTRY}, {0x1016, 0, 4, {100, 0, 5, 1}, READ_ONLY_ENTRY},
     /* size alone, and over value */
     {0x6200, 1, 2, {0}, DATA_TOO_LONG}, {0x6300, 1, 3, {0}, DATA_TOO_LONG}, {0x6320, 1, 5, {0}, DATA_TOO_LONG},
     {0x6005, 0, 2, {2}, DATA_TOO_LONG}, {0x6220, 1, 2, {2}, DATA_TOO_LONG},
@@ -233,7 +250,9 @@ static const known_write KNOWN_WRITES[] = {
     {0x1600, 0, 2, {9}, DATA_TOO_LONG}, {0x1A00, 0, 4, {0}, DATA_TOO_LONG}, {0x1600, 0, 0, {0}, DATA_TOO_SHORT},
     {0x1601, 1, 5, {1}, DATA_TOO_LONG}, {0x1602, 8, 3, {1}, DATA_TOO_SHORT}, {0x1A01, 1, 0, {0}, DATA_TOO_SHORT},
     {0x2003, 0, 2, {5}, DATA_TOO_LONG}, {0x2003, 0, 2, {0}, DATA_TOO_LONG}, {0x2003, 0, 4, {3}, DATA_TOO_LONG},
-    {0x2003, 0, 0, {0}, DATA_TOO_SHORT},
+    {0x2003, 0, 0, {0}, DATA_TOO_SHORT}, {0x1016, 1, 5, {100, 0, 5}, DATA_TOO_LONG},
+    {0x1016, 4, 5, {100, 0, 5, 1}, DATA_TOO_LONG}, {0x1016, 1, 3, {100, 0, 5}, DATA_TOO_SHORT},
+    {0x1016, 4, 0, {0}, DATA_TOO_SHORT},
     /* value, on both sides of each bound */
     {0x6220, 0x80, 1, {1}, 0}, {0x6220, 0x80, 1, {2}, VALUE_OUTSIDE}, {0x6270, 1, 1, {0xFF}, VALUE_OUTSIDE},
     {0x1029, 1, 1, {2}, 0}, {0x1029, 1, 1, {3}, VALUE_OUTSIDE}, {0x6005, 0, 1, {1}, 0},
@@ -244,11 +263,13 @@ static const known_write KNOWN_WRITES[] = {
     {0x6444, 1, 4, {0xFF, 0xFF, 0xFF, 0x7F}, VALUE_ABOVE}, {0x6444, 1, 4, {0, 0, 0, 0x80}, VALUE_BELOW},
     {0x6444, 1, 4, {0xFF, 0x7F, 0xFF, 0xFF}, VALUE_BELOW}, {0x6444, 1, 4, {0, 0x80, 0xFF, 0xFF}, 0},
     {0x2003, 0, 1, {0}, VALUE_OUTSIDE}, {0x2003, 0, 1, {1}, 0}, {0x2003, 0, 1, {2}, 0}, {0x2003, 0, 1, {3}, 0},
-    {0x2003, 0, 1, {254}, 0}, {0x2003, 0, 1, {255}, 0},
+    {0x2003, 0, 1, {254}, 0}, {0x2003, 0, 1, {255}, 0}, {0x1016, 1, 4, {100, 0, 5, 1}, VALUE_OUTSIDE},
+    {0x1016, 4, 4, {0, 0, 0, 0x80}, VALUE_OUTSIDE}, {0x1016, 1, 4, {100, 0, 127}, 0}, {0x1016, 2, 4, {100, 0, 128}, 0},
+    {0x1016, 3, 4, {100, 0, 0}, 0}, {0x1016, 4, 4, {0, 0, 127}, 0}, {0x1016, 4, 4, {0xFF, 0xFF, 0xFF}, 0},
     /* nothing is outside for the others */
     {0x6200, 0x10, 1, {0xFF}, 0}, {0x6320, 4, 4, {0xFF, 0xFF, 0xFF, 0xFF}, 0}, {0x6411, 8, 2, {0, 0x80}, 0},
     {0x6424, 0x10, 4, {0, 0, 0, 0x80}, 0}, {0x6428, 1, 4, {0xFF, 0xFF, 0xFF, 0xFF}, 0},
-    /* a count, whatever entries stand; paper_mappings.h has what depends on them */
+    /* a count, whatever entries stand; paper_mappings.h has what depends on them, paper_watch.h on other watches */
     {0x1600, 0, 1, {0}, 0}, {0x1A03, 0, 1, {0}, 0}, {0x1601, 0, 1, {9}, MAPPING_TOO_LONG},
     {0x1A02, 0, 1, {0xFF}, MAPPING_TOO_LONG},
 };

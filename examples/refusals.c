@@ -2,12 +2,13 @@
  * Every refusal of every call, from six states of the device, against the papers (paper.h). A refused
  * call must answer the paper's number and nothing else, and leave each byte of the device and of the
  * lent buffers. What stands just inside each bound must be accepted. And input lines under their filter,
- * sample by sample (filter.h), and requests to the server, each against the plain call (server.h). Ends at the
- * first difference.
+ * sample by sample (filter.h), requests to the server, each against the plain call (server.h), and watched nodes
+ * (watch.h, watch_runs.h). Ends at the first difference.
  */
 #include "filter.h"
 #include "messages.h"
 #include "server.h"
+#include "watch_runs.h"
 
 #define SHORT 8u     /* data bytes with a value; no entry has more than four */
 #define LARGE 1000u  /* bytes of the longest data that is lent */
@@ -32,6 +33,8 @@ static void try_read(const situation *from, uint16_t index, uint8_t sub)
     }
     if (wanted == 0 && at->takes == AS_MAPPED)
         expect(answer.value == mapped_number(&from->mappings[mapping_at(index)], sub), "a mapping reads otherwise");
+    if (wanted == 0 && at->takes == AS_WATCHED && sub > 0)
+        expect(answer.value == from->watches[sub - 1].value, "an entry of 1016 reads otherwise");
     if (wanted == 0 && index == 0x2003)
         expect(answer.value == from->filter_length, "the filter length reads otherwise");
     if (wanted == 0 && index == 0x6422 && sub == 1)
@@ -79,7 +82,7 @@ static void try_write_for(const situation *from, uint16_t index, uint8_t sub, co
 static void try_write(const situation *from, uint16_t index, uint8_t sub, const uint8_t *bytes, size_t length)
 {
     try_write_for(from, index, sub, bytes, length,
-                  refusal_of_write(from->stopped, from->mappings, index, sub, bytes, length));
+                  refusal_of_write(from->stopped, from->mappings, from->watches, index, sub, bytes, length));
 }
 
 static void put(uint8_t bytes[SHORT], uint32_t value)
@@ -96,7 +99,8 @@ static void try_write_value(const situation *from, uint16_t index, uint8_t sub, 
     memcpy(&device, &from->device, sizeof device);
     put(bytes, value);
     const bool is_cut = size > 4 || (size > 0 && size < 4 && value >= UINT64_C(1) << (8 * size));
-    const uint32_t wanted = refusal_of_write(from->stopped, from->mappings, index, sub, bytes, is_cut ? 5 : size);
+    const uint32_t wanted =
+        refusal_of_write(from->stopped, from->mappings, from->watches, index, sub, bytes, is_cut ? 5 : size);
     check_number(io401_write_value(&device, index, sub, value, size), wanted, "write_value %04X:%02X = %lX, size %zu",
                  index, sub, (unsigned long)value, size);
     if (wanted != 0)
@@ -339,6 +343,8 @@ static void check_obeyed(const situation *from, io401_device *device, uint8_t co
                "a command leaves another filter length");
     if (code == IO401_RESET_NODE)
         expect(is_same(device, &fresh), "reset node leaves another device than a fresh one");
+    if (code != IO401_RESET_NODE)
+        check_watches_kept(from, device, code == IO401_RESET_COMMUNICATION);
     if (code == IO401_RESET_COMMUNICATION) {
         check_empty(device);
         expect(io401_read(device, 0x1029, 1).value == 0, "reset communication leaves 1029:1");
@@ -374,6 +380,7 @@ static void try_cause(const situation *from, bool loss)
     expect(io401_clear(&twice, loss) == 0 && is_same(&once, &twice), "a second clear changes the device");
     if (!from->stopped)
         expect(io401_read(&once, 0x2003, 0).value == from->filter_length, "a cause changes the filter length");
+    check_watches_kept(from, &once, false);
     calls_tried += 4;
 }
 
@@ -433,6 +440,7 @@ static void try_situation(const situation *from)
     try_lengths(from);
     try_messages(from);
     try_requests(from);
+    try_watches(from);
     for (unsigned code = 0; code <= UINT8_MAX; code++)
         for (unsigned node = 0; node <= UINT8_MAX; node++)
             try_command(from, (uint8_t)code, (uint8_t)node);
@@ -504,7 +512,8 @@ static void check_names(void)
         {IO401_ABORT_NOT_MAPPABLE, ENTRY_NOT_MAPPABLE}, {IO401_ABORT_MAPPING_TOO_LONG, MAPPING_TOO_LONG},
         {IO401_ABORT_UNKNOWN_REQUEST, UNKNOWN_REQUEST}, {IO401_BAD_REQUEST_LENGTH, REQUEST_LENGTH},
         {IO401_BAD_REPLY_LENGTH, REPLY_LENGTH},         {IO401_REQUEST_BYTES, REQUEST_BYTES},
-        {IO401_REPLY_BYTES, REPLY_BYTES},
+        {IO401_REPLY_BYTES, REPLY_BYTES},               {IO401_ABORT_NODE_TWICE, NODE_TWICE},
+        {IO401_WATCH_ENTRIES, WATCHES},
     };
     for (size_t n = 0; n < sizeof NAMED / sizeof NAMED[0]; n++)
         expect(NAMED[n][0] == NAMED[n][1], "a name of the header has another number than the paper's");
@@ -519,9 +528,13 @@ int main(void)
         try_situation(&situations[n]);
     expect(frames_obeyed > 0 && frames_filled > 0, "no frame moved anything");
     expect(downloads_obeyed > 0 && uploads_obeyed > 0, "no request moved anything");
+    expect(losses_raised > 0 && losses_found > 0, "no watch was reached");
     situation_name = "steps by hand";
     try_mapping_steps();
     try_request_steps();
+    try_watch_steps();
+    try_lost_nodes();
+    try_watch_runs();
     try_filters();
     situation_name = "bench cases";
     try_fault();
@@ -530,6 +543,7 @@ int main(void)
     try_frame_to_send();
     try_uploaded_sources();
     check_entries_built();
+    check_watches_built();
     printf("refusals: %lu calls from %d states answer what the papers say\n", calls_tried, (int)SITUATION_COUNT);
     return 0;
 }

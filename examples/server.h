@@ -32,7 +32,7 @@ static void reply_by_paper(exchange *on, const situation *from)
 {
     const uint8_t *request = on->request;
     const uint16_t index = index_in(request);
-    const uint32_t code = abort_of_request(from->mappings, request);
+    const uint32_t code = abort_of_request(from->mappings, from->watches, request);
     if (code != 0) {
         fill_reply(on->reply, 0x80, request, code);
     } else if (asked_by(request) == UPLOAD) {
@@ -149,6 +149,20 @@ static void try_served_mappings(const situation *from)
     }
 }
 
+/* Used and unused values, some for a node that another entry has, some with a bit above the node. */
+static void try_served_watches(const situation *from)
+{
+    static const uint32_t WATCH_VALUES[] = {WATCHED(7u, 300), WATCHED(8u, 1), WATCHED(9u, 65535),
+                                            WATCHED(5u, 100), WATCHED(7u, 0), WATCHED(127u, 1),
+                                            WATCHED(128u, 1), 0x01090001,     0x80010001};
+    for (unsigned sub = 1; sub <= WATCHES; sub++) {
+        for (size_t n = 0; n < sizeof WATCH_VALUES / sizeof WATCH_VALUES[0]; n++) {
+            try_asked(from, 0x23, 0x1016, sub, WATCH_VALUES[n]);
+            try_asked(from, 0x22, 0x1016, sub, WATCH_VALUES[n]);
+        }
+    }
+}
+
 /* Lengths 0 to 9 of both, and longer ones, over requests of every kind; 7 comes before 5, both before all else. */
 static void try_request_lengths(const situation *from)
 {
@@ -179,6 +193,7 @@ static void try_requests(const situation *from)
     try_first_bytes(from, 0x6001, 1);
     try_first_bytes(from, UINT16_MAX, UINT8_MAX);
     try_served_mappings(from);
+    try_served_watches(from);
     try_request_lengths(from);
 }
 

@@ -13,6 +13,7 @@
 #define FRESH_LENGTH 3u   /* 2003:0 of a fresh device .. */
 #define UNUSUAL_LENGTH 5u /* .. and where all is written */
 #define PATTERN 0xA5      /* in every byte of a lent buffer before the call */
+#define WATCHES_AT (IO401_DELTAS - 2 * WATCHES) /* in `deltas`: entries of 1016, then watches, as the header says */
 
 /* The values on both sides of each bound of a rule, and the ends of each size. */
 static const uint32_t VALUES[] = {0,          1,          2,          3,          0x1E,       0x1F,
@@ -29,6 +30,7 @@ typedef struct situation {
     bool in_fault;
     uint8_t filter_length;
     mapping mappings[MAPPINGS];
+    watch watches[WATCHES];
     io401_device device;
 } situation;
 
@@ -103,7 +105,7 @@ static void write_everything(io401_device *device)
 {
     for (size_t n = 0; n < OBJECT_COUNT; n++) {
         const object *at = &OBJECTS[n];
-        const bool is_plain = at->written && at->takes != AS_MAPPED;
+        const bool is_plain = at->written && at->takes != AS_MAPPED && at->takes != AS_WATCHED;
         for (unsigned sub = at->last > 0; is_plain && sub <= at->last; sub++)
             if (io401_write_value(device, at->index, (uint8_t)sub, unusual_value(at, sub), at->size) != 0)
                 fail("the set-up of %04X:%02X is refused", at->index, sub);
@@ -142,6 +144,24 @@ static void write_mappings(situation *to)
             fail("the set-up of %04X:00 is refused", MAPPING_AT[n]);
         to->mappings[n] = *map;
     }
+}
+
+/* Two started entries with 20 ms each, an unused one between them, and one that waits. */
+static void write_watches(situation *to)
+{
+    static const uint32_t ENTRIES[WATCHES] = {WATCHED(7u, 300), WATCHED(128u, 20), WATCHED(8u, 65535),
+                                              WATCHED(9u, 21)};
+    for (uint8_t sub = 1; sub <= WATCHES; sub++) {
+        if (io401_write_value(&to->device, 0x1016, sub, ENTRIES[sub - 1], WATCH_BYTES) != 0)
+            fail("the set-up of 1016:%02X is refused", sub);
+        write_watch(to->watches, sub, ENTRIES[sub - 1]);
+    }
+    for (uint8_t node = 7; node <= 9; node = (uint8_t)(node + 2)) {
+        io401_heartbeat(&to->device, node);
+        hear_node(to->watches, node);
+    }
+    io401_elapsed(&to->device, 20);
+    elapse_watches(to->watches, 20);
 }
 
 /*
@@ -187,11 +207,13 @@ static void prepare(void)
         situations[n].in_fault = n >= FAILED;
         situations[n].filter_length = n == FRESH ? FRESH_LENGTH : UNUSUAL_LENGTH;
         expect(io401_create(device, NODE) == 0, "a create is refused");
+        empty_watches(situations[n].watches);
         if (n == FRESH)
             continue;
         expect(io401_command(device, IO401_START, NODE) == 0, "a start is refused");
         write_everything(device);
         write_mappings(&situations[n]);
+        write_watches(&situations[n]);
         sample_inputs(device);
         if (n == FAILED || n == BOTH)
             io401_raise(device, IO401_INTERNAL_FAILURE);

@@ -5,15 +5,17 @@
  * layout that is asserted below: a size_t of 8 bytes and a bool of one.
  *
  * A CiA 401 input/output device: 128 digital inputs, 128 digital outputs, 16 analogue inputs and
- * 8 analogue outputs, four process data messages each way, and a service data server. Link with
- * libio401.a, whose functions are proved (crates/io401).
+ * 8 analogue outputs, four process data messages each way, a service data server, and a watch of the
+ * heartbeats of up to four nodes. Link with libio401.a, whose functions are proved (crates/io401).
  *
- * Memory: a device has 1,080 bytes; the archive has 11,303 of code and constants, no data of its own,
+ * Memory: a device has 1,112 bytes; the archive has 12,230 of code and constants, no data of its own,
  * and allocates nothing. Stack of a call in bytes, from C through this header, as bench/stack.c
- * measures it with gcc 12.2 -O2: create 8, read 224, write 320, write_value 336, sample 168,
- * command 64, raise 64, clear 48, drive 8, receive 464, transmit 224, request 416.
- * Symbols needed from outside: none, not even memcpy. The code uses SSE2 registers and the 128 bytes
- * below the stack pointer (the red zone), as any program on x86-64 Linux may.
+ * measures it with gcc 12.2 -O2: create 8, read 224, write 384, write_value 400, sample 168,
+ * command 64, raise 64, clear 48, drive 8, receive 528, transmit 224, request 480, heartbeat 8,
+ * elapsed 48.
+ * Symbols needed from outside: none, not even memcpy. The code is for x86-64-v2, a processor with
+ * SSE4.2; it uses the vector registers and the 128 bytes below the stack pointer (the red zone), as
+ * any program on x86-64 Linux may.
  *
  * An accepted call answers number 0. A refused call answers the number that says why, and leaves
  * the device and every lent buffer as they were; what else it answers is 0.
@@ -51,6 +53,7 @@ extern "C" {
 #define IO401_ABORT_COUNT_NOT_ZERO UINT32_C(0x06010000)   /* an entry of a mapping while its count is not 0 */
 #define IO401_ABORT_NOT_MAPPABLE UINT32_C(0x06040041)     /* an entry that cannot be mapped, or not so wide */
 #define IO401_ABORT_MAPPING_TOO_LONG UINT32_C(0x06040042) /* a count above 8, or of entries with more than 64 bits */
+#define IO401_ABORT_NODE_TWICE UINT32_C(0x06040043)       /* a node that another entry of 1016 watches already */
 
 /* What it says of the other calls. */
 #define IO401_BAD_NODE UINT32_C(1)            /* create: 0 or above 127; command: above 127 */
@@ -90,6 +93,7 @@ extern "C" {
 #define IO401_FRAME_BYTES 8u       /* of a frame that is lent to transmit */
 #define IO401_REQUEST_BYTES 8u     /* of a request to the server */
 #define IO401_REPLY_BYTES 8u       /* of the buffer that is lent for the reply, and of every reply */
+#define IO401_WATCH_ENTRIES 4u     /* of 1016, each for one node that is watched */
 
 /*
  * The four bytes of an entry of a mapping, 1600 to 1603 and 1A00 to 1A03: which entry of the dictionary it
@@ -103,15 +107,31 @@ extern "C" {
          ? UINT32_C(0xFFFFFFFF)                                                                                       \
          : ((uint32_t)(index) << 16 | (uint32_t)(sub) << 8 | (uint32_t)(bits)))
 
+/*
+ * The four bytes of an entry of 1016, sub-indices 1 to 4: which node is watched, and how many milliseconds without
+ * its heartbeat are communication loss (io401_heartbeat, io401_elapsed). An entry with 0 milliseconds, or with a
+ * node outside 1 to 127, is unused and watches none. No two used entries name the same node. Writing an entry stops
+ * its watch until the node's next heartbeat, with its own value too; either reset sets all four entries to 0.
+ * Numbers too high for their field, above 255 and 65,535, give a value that 1016 refuses; each is evaluated twice.
+ */
+#define IO401_WATCH_ENTRY(node, milliseconds)                                                                         \
+    (((uint64_t)(node) >> 8 | (uint64_t)(milliseconds) >> 16) != 0                                                    \
+         ? UINT32_C(0xFFFFFFFF)                                                                                       \
+         : ((uint32_t)(node) << 16 | (uint32_t)(milliseconds)))
+
 /* Elements of a device's arrays, as in crates/channels/src/fields.rt and crates/windows/src/lib.rt. */
 #define IO401_OCTETS 22
 #define IO401_FLAGS 12
 #define IO401_WORDS 40
 #define IO401_LIMITS 32
-#define IO401_DELTAS 120
+#define IO401_DELTAS 128
 #define IO401_VALUES 56
 
-/* The arrays may be read, best through io401_read; element n - 1 of a column is channel n's. */
+/*
+ * The arrays may be read, best through io401_read; element n - 1 of a column is channel n's. The last eight of
+ * `deltas` are the four entries of 1016 and after them their watches: 0 while one waits for a first heartbeat,
+ * else the milliseconds that it has added up, plus 1.
+ */
 typedef struct io401_device {
     uint8_t octets[IO401_OCTETS];  /* node number, state (IO401_STATE_..), 1029:1; 6421 (16); source bits (2); 2003 */
     bool flags[IO401_FLAGS];       /* the two causes, 6005, 6423; 6443 (8) */
@@ -182,6 +202,8 @@ io401_transmit_answer io401_transmit_arrays(const io401_device *device, bool sec
                                             size_t length);
 io401_request_answer io401_request_arrays(io401_device *device, const uint8_t *request, size_t request_length,
                                           uint8_t *reply, size_t reply_length);
+uint32_t io401_heartbeat_arrays(io401_device *device, uint8_t node);
+uint32_t io401_elapsed_arrays(io401_device *device, uint32_t milliseconds);
 
 /*
  * A fresh device: pre-operational, no cause of fault, every object at its default. A node number
@@ -204,8 +226,8 @@ static inline io401_read_answer io401_read(io401_device *device, uint16_t index,
 
 /*
  * Writes an entry: `length` bytes, the least significant first. The length must be the entry's
- * size. Refusals are IO401_ABORT_.., the first that applies in the order listed above; the last three
- * are those of a mapping, of its entries the first two and of its count the third.
+ * size. Refusals are IO401_ABORT_.., the first that applies in the order listed above; the last four
+ * are those of a mapping, of its entries the first two and of its count the third, and that of 1016.
  */
 static inline uint32_t io401_write(io401_device *device, uint16_t index, uint8_t sub, const uint8_t *bytes,
                                    size_t length)
@@ -360,6 +382,30 @@ static inline io401_request_answer io401_request(io401_device *device, const uin
                                                  uint8_t *reply, size_t reply_length)
 {
     return io401_request_arrays(device, request, request_length, reply, reply_length);
+}
+
+/*
+ * A heartbeat of a node has come. CAN identifiers are the caller's business: by default it is a frame with 0x700
+ * plus that node's number. Where an entry of 1016 is used for that node, the first heartbeat since it was written,
+ * or since it raised a loss, starts its watch, and each later one sets what it has added up to 0. A heartbeat of
+ * any other node, 0 and those above 127 too, does nothing. None clears a communication loss: io401_clear and the two
+ * resets do. Never refused, whatever the state of this device: the answer is 0.
+ */
+static inline uint32_t io401_heartbeat(io401_device *device, uint8_t node)
+{
+    return io401_heartbeat_arrays(device, node);
+}
+
+/*
+ * Milliseconds that have elapsed since the last such call, any number, 0 too: the tick of a timer. Each watch that
+ * has started adds them up, all of them, also where its heartbeat came in between: a loss may come early by up to
+ * the milliseconds of one call. A watch whose sum reaches or passes the time of its entry raises communication loss
+ * in this very call, as io401_raise does, and then waits for a first heartbeat again; the other watches go on.
+ * Never refused, whatever the state of this device: the answer is 0.
+ */
+static inline uint32_t io401_elapsed(io401_device *device, uint32_t milliseconds)
+{
+    return io401_elapsed_arrays(device, milliseconds);
 }
 
 /* The state of the node, IO401_STATE_... */

@@ -8,12 +8,12 @@ use native.Mathlib.Omega.{arith}
 use Rattle.std.specs.Prelude.{Result, Ok, Err}
 use Rattle.std.specs.Result.{result_unwrap_or}
 use Rattle.profile.specs.declared.refusals.Refusal.{Refusal}
-use Rattle.profile.specs.declared.Home.TheVariants.{Window}
+use Rattle.profile.specs.declared.Home.{Home}
 use Rattle.profile.specs.Numbers.{number_answered}
 use Rattle.profile.specs.Answers.{buffer_answer}
 use Rattle.profile.specs.Entries.{Entry, entry_of}
 use Rattle.profile.proofs.AnswerLaws.{nonzero}
-use Rattle.profile.proofs.EntryRanges.{InRange, WindowRange, in_range}
+use Rattle.profile.proofs.EntryRanges.{InRange, in_range}
 use mir.Syntax.{w32}
 use Rattle.std.specs.Int.{to_le_bytes}
 use Rattle.words.specs.Ascii.{ascii}
@@ -38,10 +38,9 @@ pub counted_is : (a : Result ℕ Refusal) (word bytes : List ℕ) (n count : ℕ
 counted_is (Ok x) word bytes n count p q = cc
 counted_is (Err r) word bytes n count p q = cc
 
--- a window that was found is one of the papers
-pub window_found : (row w s index sub : ℕ) (e : Entry) → e ≡ entry_of index sub → e.home ≡ Window row w s
-    → WindowRange (entry_of index sub) row w s
-window_found row w s index sub e found is =
+-- a window, or an entry of the watch, that was found is one of the papers
+pub home_found : (h : Home) (index sub : ℕ) (e : Entry) → e ≡ entry_of index sub → e.home ≡ h → InRange (entry_of index sub) h
+home_found h index sub e found is =
     subst (InRange (entry_of index sub)) (ap (λ (x : Entry). x.home) (sym found) ∙ is) (in_range index sub)
 
 -- words that were put in parentheses

@@ -14,7 +14,7 @@ use mir.Val.{of_z}
 use borrow.Author.Tests.{ltb-true, ltb-false}
 use Rattle.profile.specs.declared.Home.{Home}
 use Rattle.profile.specs.Entries.{home_of}
-use Rattle.profile.proofs.HomeLaws.{window_holds, mapping_holds}
+use Rattle.profile.proofs.HomeLaws.{window_holds, mapping_holds, watch_holds}
 use Rattle.words.specs.declared.Expected.{Expected}
 use Rattle.words.specs.declared.Expected.TheVariants as Ex
 use Rattle.words.specs.Ascii.{ascii}
@@ -23,9 +23,9 @@ use Rattle.texts.specs.Tables.{Row, text_of}
 use Rattle.texts.specs.Texts.{hex_text, long_hex_text, places_of, decimal_text, bits_text, each_text, bytes_text, numbers_text, place_text}
 use Rattle.texts.specs.Texts.{words_text, places_from, places_text}
 use Rattle.answers.specs.Answers.{newline, in_parentheses, number_text, refusals, refusal_text, end_text, attributes, lines_text}
-use Rattle.answers.specs.Answers.{attribute_text, direction_text, place_in_mapping, mapping_text, entry_text, plain_line, write_line}
-use Rattle.answers.specs.Answers.{four_bytes, read_line, sample_line, drive_line, receive_end, receive_line, frame_end, frame_line}
-use Rattle.answers.specs.Answers.{expected_text, unknown_line, unmet_line, totals_text, judged_text}
+use Rattle.answers.specs.Answers.{attribute_text, direction_text, place_in_mapping, mapping_text, watch_text, entry_text}
+use Rattle.answers.specs.Answers.{plain_line, write_line, four_bytes, read_line, sample_line, drive_line, receive_end, receive_line}
+use Rattle.answers.specs.Answers.{frame_end, frame_line, expected_text, unknown_line, unmet_line, totals_text, judged_text}
 use Rattle.texts.proofs.ReadBack.{digits_length}
 
 -- one of two texts
@@ -217,13 +217,20 @@ mapping_short : (m sub : ℕ) → length (mapping_text m sub) ≤ 65
 unfolding mapping_text
 mapping_short m sub = simp length-append (omega (arith, direction_short m, decimal_short (m % 4 + 1), place_in_mapping_short sub))
 
+watch_short : (sub : ℕ) → length (watch_text sub) ≤ 33
+unfolding watch_text
+watch_short sub = simp length-append (omega (arith, decimal_short sub))
+
 pub entry_short : (h : Home) → length (entry_text h) ≤ 74
 entry_short h =
-    mapping_holds (λ (text : List ℕ). length text ≤ 74) _ _
-    (window_holds (λ (text : List ℕ). length text ≤ 74) _ newline (omega arith)
+    let Short : List ℕ → Type 0 = λ text. length text ≤ 74 in
+    watch_holds Short _ _
+    (mapping_holds Short _ _
+    (window_holds Short _ newline (omega arith)
     (λ row width sub. parentheses_short 70 (attribute_text row ++ lines_text (width * (sub - 1) + 1) (width * sub))
     (simp length-append (omega (arith, attribute_short row, lines_short (width * (sub - 1) + 1) (width * sub))))) h)
-    (λ m sub. parentheses_short 70 (mapping_text m sub) (omega (arith, mapping_short m sub))) h
+    (λ m sub. parentheses_short 70 (mapping_text m sub) (omega (arith, mapping_short m sub))) h)
+    (λ n. parentheses_short 70 (watch_text (n + 1)) (omega (arith, watch_short (n + 1)))) h
 
 expected_short : (e : Expected) → length (expected_text e) ≤ 47
 expected_short Ex.Call = omega arith
@@ -238,6 +245,7 @@ expected_short Ex.End = omega arith
 expected_short Ex.Shorter = omega arith
 expected_short Ex.Answer = omega arith
 expected_short Ex.Message = omega arith
+expected_short Ex.Milliseconds = omega arith
 
 -- ---- lines
 

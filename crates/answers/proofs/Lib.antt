@@ -2,3 +2,4 @@
 -- Assumes nothing.
 pub mod AnswerLaws
 pub mod LengthLaws
+pub mod HeartbeatLengths

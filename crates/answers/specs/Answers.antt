@@ -2,7 +2,7 @@
 -- Assumes nothing.
 use Rattle.std.specs.Prelude.{Bool, cond, ◌&&◌, List, [], ◌∷◌, ◌++◌, ℕ, ◌+◌, ◌-◌, ◌*◌, ◌/◌, ◌%◌, ltb, eqb, take, ℤ}
 use Rattle.profile.specs.declared.Home.{Home}
-use Rattle.profile.specs.Entries.{home_of, at_window, at_mapping}
+use Rattle.profile.specs.Entries.{home_of, at_window, at_mapping, at_watch}
 use Rattle.words.specs.declared.Expected.{Expected}
 use Rattle.words.specs.declared.Expected.TheVariants as Ex
 use Rattle.words.specs.Ascii.{ascii}
@@ -42,6 +42,7 @@ refusals =
     ∷ 0x06010000 is "count is not 0"
     ∷ 0x06040041 is "entry cannot be mapped"
     ∷ 0x06040042 is "more than 8 entries or 64 bits"
+    ∷ 0x06040043 is "node watched by another entry"
     ∷ 0x05040001 is "not an expedited transfer"
     ∷ []
 
@@ -88,12 +89,19 @@ place_in_mapping sub = cond (eqb sub 0) (ascii ", count") (ascii ", entry " ++ d
 unfoldable pub mapping_text : ℕ → ℕ → List ℕ
 mapping_text m sub = direction_text m ++ ascii " mapping " ++ decimal_text (m % 4 + 1) ++ place_in_mapping sub
 
--- "for a digital read or write the attribute and the lines it is a window on, as `0 (output, lines 1 to 16)`"; for a mapping which it is
+-- an entry of the heartbeat watch: `watch, entry 1`
+unfoldable pub watch_text : ℕ → List ℕ
+watch_text sub = ascii "watch, entry " ++ decimal_text sub
+
+-- "for a digital read or write the attribute and the lines it is a window on, as `0 (output, lines 1 to 16)`"; for a mapping or the watch
+-- which entry it is
 abbrev pub entry_text : Home → List ℕ
 entry_text h =
-    at_mapping
+    at_watch
+    (at_mapping
     (at_window newline (λ row width sub. in_parentheses (attribute_text row ++ lines_text (width * (sub - 1) + 1) (width * sub))) h)
-    (λ m sub. in_parentheses (mapping_text m sub)) h
+    (λ m sub. in_parentheses (mapping_text m sub)) h)
+    (λ n. in_parentheses (watch_text (n + 1))) h
 
 -- the line of a call that answers its number alone
 unfoldable pub plain_line : ℕ → List ℕ
@@ -130,6 +138,21 @@ receive_end active long =
 unfoldable pub receive_line : ℕ → Bool → Bool → List ℕ
 receive_line n active long = number_text n ++ receive_end active long
 
+-- the end of a heartbeat's line, which has no refusal: whether a used entry names the node
+unfoldable pub heartbeat_end : Bool → List ℕ
+heartbeat_end watched = cond watched newline (in_parentheses (ascii "no entry watches this node"))
+
+unfoldable pub heartbeat_line : ℕ → Bool → List ℕ
+heartbeat_line n watched = number_text n ++ heartbeat_end watched
+
+-- the end of an elapsed call's line, which has no refusal: whether an entry expires by it, and whether a watch is started before it
+unfoldable pub elapsed_end : Bool → Bool → List ℕ
+elapsed_end due running =
+    cond due (in_parentheses (ascii "watch expired")) (cond running newline (in_parentheses (ascii "no watch started")))
+
+unfoldable pub elapsed_line : ℕ → Bool → Bool → List ℕ
+elapsed_line n due running = number_text n ++ elapsed_end due running
+
 -- the end of a transmit's line, which has one refusal: why no byte was written, in a node that is operational or not
 unfoldable pub frame_end : ℕ → Bool → List ℕ
 frame_end n active =
@@ -158,6 +181,7 @@ expected_text Ex.End = ascii "the end of the line"
 expected_text Ex.Shorter = ascii "at most 1,024 bytes"
 expected_text Ex.Answer = ascii "an answer before this line"
 expected_text Ex.Message = ascii "a number from 1 to 4"
+expected_text Ex.Milliseconds = ascii "a number from 0 to 4294967295"
 
 -- "A line that is no call of this table gets `? line N: ` and what was expected"
 unfoldable pub unknown_line : ℕ → Expected → List ℕ

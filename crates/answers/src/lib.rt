@@ -3,25 +3,27 @@
 
 ghost use Rattle.std.specs.Prelude.{◌≡◌, ◌++◌};
 ghost use Rattle.profile.specs.Answers.{read_answer, sample_answer, buffer_answer};
-ghost use Rattle.profile.specs.Entries.{home_of};
 ghost use Rattle.profile.specs.Numbers.{number_answered};
 ghost use Rattle.words.specs.Ascii.{ascii};
 ghost use Rattle.words.specs.Buffers.{put};
 ghost use Rattle.texts.specs.Texts.{bytes_text, decimal_text};
-ghost use Rattle.answers.specs.Answers.{newline, number_text, end_text, lines_text, entry_text, direction_text};
-ghost use Rattle.answers.specs.Answers.{place_in_mapping, mapping_text};
-ghost use Rattle.answers.specs.Answers.{plain_line, write_line, read_line, sample_line, drive_line, unknown_line};
-ghost use Rattle.answers.specs.Answers.{receive_end, receive_line, frame_end, counted_text, frame_line, unmet_line, totals_text, judged_text};
+ghost use Rattle.answers.specs.Answers.{newline, number_text, end_text, plain_line, write_line, read_line, sample_line, drive_line};
+ghost use Rattle.answers.specs.Answers.{receive_end, receive_line, frame_end, counted_text, frame_line};
+ghost use Rattle.answers.specs.Answers.{unknown_line, unmet_line, totals_text, judged_text};
 
-use crate::tables::{attribute, meaning, wanted};
-use dictionary::entries::find;
+use crate::entries::end_access;
+use crate::tables::{meaning, wanted};
+use profile::ReadValue;
 use profile::refusals::Refusal;
-use profile::{Home, ReadValue};
 use texts::text::{put_bytes, put_decimal, put_each_word, put_long_hex, put_numbers, put_places};
 use words::Expected;
 use words::buffers::Buffer;
 use words::items::first_items;
 
+// Which entry was read or written, in the words that end the line.
+pub mod entries;
+// The answer lines of a heartbeat and of an elapsed call.
+pub mod heartbeats;
 // The tables of words.
 pub mod tables;
 
@@ -37,7 +39,7 @@ pub fn put_number<B: Buffer<u8>>(out: &mut B, number: u32)
 }
 
 // The number of a refusal, 0 where the call is accepted.
-fn put_outcome<B: Buffer<u8>, T: Drop>(out: &mut B, answer: &Result<T, Refusal>)
+pub(crate) fn put_outcome<B: Buffer<u8>, T: Drop>(out: &mut B, answer: &Result<T, Refusal>)
     ensures { B.held out.new ≡ put B.most (B.held out.old) (number_text (number_answered answer.now)) }
 {
     match answer {
@@ -214,79 +216,6 @@ fn end<B: Buffer<u8>, T: Drop>(out: &mut B, answer: &Result<T, Refusal>)
             close(out);
         }
     }
-}
-
-// What an entry of digital lines is a window on, or which entry of which mapping it is, and the line's end.
-#[tactic(auto, using(crate::proofs::AnswerLaws::parentheses))]
-pub fn end_access<B: Buffer<u8>>(out: &mut B, index: u16, sub: u8)
-    ensures { B.held out.new ≡ put B.most (B.held out.old) (entry_text (home_of index sub)) }
-{
-    let Ok(entry) = find(index, sub) else {
-        return out.put(b'\n');
-    };
-    match entry.home {
-        Home::Window(row, width, place) => {
-            out.put_all(b" (");
-            out.put_all(attribute(row));
-            put_lines(
-                out,
-                (width * (place - 1) + 1) as u64,
-                (width * place) as u64,
-            );
-            close(out);
-        }
-        Home::MappingEntry(mapping, place) => {
-            out.put_all(b" (");
-            put_mapping(out, mapping, place);
-            close(out);
-        }
-        _ => out.put(b'\n'),
-    }
-}
-
-#[tactic(auto, using(words::proofs::BufferLaws::puts), unfolding(crate::specs::Answers::mapping_text))]
-fn put_mapping<B: Buffer<u8>>(out: &mut B, mapping: usize, place: usize)
-    ensures { B.held out.new ≡ put B.most (B.held out.old) (mapping_text mapping place) }
-{
-    out.put_all(direction(mapping));
-    out.put_all(b" mapping ");
-    put_decimal(out, (mapping % 4 + 1) as u64);
-    put_place_in_mapping(out, place);
-}
-
-#[tactic(auto, unfolding(crate::specs::Answers::direction_text))]
-fn direction(mapping: usize) -> &'static [u8]
-    ensures { result.now ≡ direction_text mapping }
-{
-    match mapping {
-        0..4 => b"receive",
-        _ => b"transmit",
-    }
-}
-
-#[tactic(auto, using(words::proofs::BufferLaws::puts), unfolding(crate::specs::Answers::place_in_mapping))]
-fn put_place_in_mapping<B: Buffer<u8>>(out: &mut B, place: usize)
-    ensures { B.held out.new ≡ put B.most (B.held out.old) (place_in_mapping place) }
-{
-    if place == 0 {
-        return out.put_all(b", count");
-    }
-    out.put_all(b", entry ");
-    put_decimal(out, place as u64);
-}
-
-#[tactic(auto, using(words::proofs::BufferLaws::puts), unfolding(crate::specs::Answers::lines_text))]
-fn put_lines<B: Buffer<u8>>(out: &mut B, from: u64, to: u64)
-    ensures { B.held out.new ≡ put B.most (B.held out.old) (lines_text from to) }
-{
-    if from == to {
-        out.put_all(b", line ");
-        return put_decimal(out, from);
-    }
-    out.put_all(b", lines ");
-    put_decimal(out, from);
-    out.put_all(b" to ");
-    put_decimal(out, to);
 }
 
 // A line that is no call.

@@ -49,6 +49,7 @@ pub fn meaning(number: u32) -> &'static [u8]
         0x0601_0000 => b"count is not 0",
         0x0604_0041 => b"entry cannot be mapped",
         0x0604_0042 => b"more than 8 entries or 64 bits",
+        0x0604_0043 => b"node watched by another entry",
         NO_REQUEST => b"not an expedited transfer",
         _ => b"refused",
     }
@@ -71,5 +72,6 @@ pub fn wanted(expected: Expected) -> &'static [u8]
         Expected::Shorter => b"at most 1,024 bytes",
         Expected::Answer => b"an answer before this line",
         Expected::Message => b"a number from 1 to 4",
+        Expected::Milliseconds => b"a number from 0 to 4294967295",
     }
 }

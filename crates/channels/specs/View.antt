@@ -2,7 +2,7 @@
 -- columns of an array follow one another.
 -- octets: 3 of the node, then selection (16), then the source bits of all channels as a number of two bytes, the low one first, then one
 -- more of the node.
--- flags: 4 of the node, then mode (8). limits: upper, lower. deltas: delta, negative, positive, then the mappings.
+-- flags: 4 of the node, then mode (8). limits: upper, lower. deltas: delta, negative, positive, then the mappings and the watch.
 -- values: last, reference (16 each), error, kept, driven (8 each).
 -- Assumes nothing.
 use Rattle.std.specs.Prelude.{◌≡◌, Bool, true, false, List, ℕ, ◌+◌, ◌*◌, ◌/◌, ◌%◌, ◌≤◌, ◌<◌, length, get_or, set, ℤ, pos}

@@ -6,14 +6,14 @@ ghost use Rattle.channels.specs.View.{samples_set, sources_set, output_set, mode
 
 use profile::{AnalogueInput, AnalogueOutput};
 
-// How many elements each array that the device lends has; the mappings stand at the end of deltas.
+// How many elements each array that the device lends has; the mappings and the watch stand at the end of deltas.
 pub const OCTETS: usize = 22;
 
 pub const FLAGS: usize = 12;
 
 pub const LIMITS: usize = 32;
 
-pub const DELTAS: usize = 120;
+pub const DELTAS: usize = 128;
 
 pub const VALUES: usize = 56;
 
@@ -119,7 +119,7 @@ pub fn last_at(values: &Values, n: usize) -> i16
 
 // The elements from one on and before another become 0.
 pub fn zero_deltas(deltas: &mut Deltas, from: usize, to: usize)
-    requires { (from ≤ to) × (to ≤ 120) }
+    requires { (from ≤ to) × (to ≤ 128) }
     ensures { Zeroed from to deltas.old deltas.new }
 {
     deltas[from..to].fill(0);

@@ -18,7 +18,7 @@ use Rattle.profile.specs.declared.AnalogueInput.{AnalogueInput}
 use Rattle.profile.specs.declared.AnalogueOutput.{AnalogueOutput}
 use Rattle.profile.specs.Nodes.{addressed}
 use Rattle.profile.specs.Calls.{command, Call, direct, Reply}
-use Rattle.profile.specs.Machines.{node_alone, input_line, output_line, analogue_input, analogue_output, mapping, Machine}
+use Rattle.profile.specs.Machines.{node_alone, input_line, output_line, analogue_input, analogue_output, mapping, watch, Machine}
 use Rattle.profile.specs.Outcome.{Same}
 use Rattle.profile.proofs.BitLaws.{same_bits}
 use Rattle.lines.proofs.ColumnLaws.{end, ◌▸◌, all_at}
@@ -26,6 +26,8 @@ use Rattle.lines.proofs.DeterminedLaws.{same_words_lem}
 use Rattle.channels.specs.View.{sources_of}
 use Rattle.mappings.specs.View.{mapping_at}
 use Rattle.mappings.proofs.ViewLaws.{same_mappings}
+use Rattle.watches.specs.View.{watches_of}
+use Rattle.watches.proofs.ViewLaws.{same_watches}
 use Rattle.store.specs.View.{state_number, node_at, parts_of}
 use Rattle.device.specs.declared.Device.{Device}
 use Rattle.device.specs.View.{machines_of, Normal}
@@ -72,6 +74,9 @@ module _ (a b : Device) (p : Allowed a) (q : Allowed b) (u : Normal a) (v : Norm
 
   map : (i : ℕ) → i < 8 → mapping_at a.store.deltas i ≡ mapping_at b.store.deltas i
   map i h = ap (λ (m : Machine mapping). m.own) (s.at mapping i h)
+
+  watched : watches_of a.store.deltas ≡ watches_of b.store.deltas
+  watched = ap (λ (m : Machine watch). m.own) (s.at watch 0 (omega arith))
 
   state : get_or a.store.octets 1 0 ≡ get_or b.store.octets 1 0
   state = sym u.state ∙ ap (λ (n : Node). state_number n.state) node ∙ v.state
@@ -121,13 +126,15 @@ module _ (a b : Device) (p : Allowed a) (q : Allowed b) (u : Normal a) (v : Norm
 
   deltas : a.store.deltas ≡ b.store.deltas
   deltas =
-      same_array 0 120 a.store.deltas b.store.deltas p.sized.deltas q.sized.deltas
+      same_array 0 128 a.store.deltas b.store.deltas p.sized.deltas q.sized.deltas
+      (split a.store.deltas b.store.deltas 0 120 8
       (split a.store.deltas b.store.deltas 0 48 72
       (split a.store.deltas b.store.deltas 0 32 16
       (split a.store.deltas b.store.deltas 0 16 16 (λ i h. ap (λ (m : AnalogueInput). m.delta) (input i h))
       (λ i h. ap (λ (m : AnalogueInput). m.negative) (input i h)))
       (λ i h. ap (λ (m : AnalogueInput). m.positive) (input i h)))
       (same_mappings a.store.deltas b.store.deltas map))
+      (same_watches a.store.deltas b.store.deltas watched))
 
   values : a.store.values ≡ b.store.values
   values =

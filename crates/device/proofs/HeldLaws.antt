@@ -14,6 +14,7 @@ use Rattle.profile.proofs.EntryRanges.{mapping_size}
 use Rattle.profile.proofs.ReadLaws.{Held}
 use Rattle.mappings.specs.View.{place_of, mapping_at}
 use Rattle.mappings.proofs.ViewLaws.{read_is}
+use Rattle.watches.proofs.ViewLaws.{value_is}
 use Rattle.device.specs.declared.Device.{Device}
 use Rattle.device.specs.View.{machines_of}
 use Rattle.device.specs.Promises.{Allowed}
@@ -44,4 +45,5 @@ module _ (d : Device) (p : Allowed d) (counted : (m : ℕ) → m < 8 → (machin
           error = (Fits-of_z {w = w32} (sfits_widen tt (p.each_value (32 + n)))).fits;
         };
         mappings = mapping_fits;
+        watches = λ n h. rw (value_is d.store.deltas n h) (p.each_delta (120 + n)).fits;
       }

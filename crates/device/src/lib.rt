@@ -1,4 +1,4 @@
-// The device of documents 01 and 02, and its eleven calls as methods. Every call is refused or accepted on every input.
+// The device of documents 01 and 02, and its thirteen calls as methods. Every call is refused or accepted on every input.
 #![tactic(auto)]
 
 use profile::refusals::Refusal;
@@ -10,6 +10,8 @@ pub mod frames;
 pub mod methods;
 // request as a method.
 pub mod requests;
+// heartbeat and elapsed as methods.
+pub mod watch;
 
 #[derive(Clone, Copy)]
 pub struct Device {

@@ -53,6 +53,9 @@ fn places(n: usize) -> u64
 // The highest value of an entry that takes any.
 const ANY: u32 = u32::MAX;
 
+// And of an entry of 1016, whose bits 24 to 31 are 0.
+const WATCHED: u32 = 0x00FF_FFFF;
+
 #[tactic(auto, unfolding(profile::specs::Entries::entry_of))]
 pub fn find(index: u16, sub: u8) -> Result<Entry, Refusal>
     ensures { found result ≡ entry_of index sub }
@@ -221,7 +224,7 @@ fn mapping_object(index: u16, sub: u8) -> Result<Entry, Refusal>
     }
 }
 
-// The objects outside the table of digital lines, by channel from 0; sub-index 0, the entry count, names channel 0 too.
+// The objects outside the table of digital lines, by channel or entry from 0; sub-index 0, the entry count, names number 0 too.
 #[tactic(auto, unfolding(profile::specs::Entries::object_of))]
 fn object(index: u16, sub: u8) -> Result<Entry, Refusal>
     ensures { found result ≡ object_of index sub }
@@ -230,6 +233,7 @@ fn object(index: u16, sub: u8) -> Result<Entry, Refusal>
     match index {
         0x1000 => reading(sub, 0, 4, Home::Constant(0x000F_0191)),
         0x1001 => reading(sub, 0, 1, Home::Device(index)),
+        0x1016 => setting(sub, 4, 4, 0, WATCHED, Home::WatchEntry(n)),
         0x1029 => setting(sub, 1, 1, 0, 2, Home::Device(index)),
         0x2003 => setting(sub, 0, 1, 1, 255, Home::Device(index)),
         0x6005 => setting(sub, 0, 1, 0, 1, Home::Device(index)),

@@ -7,8 +7,9 @@ ghost use Rattle.profile.specs.Numbers.{refusal_number};
 ghost use Rattle.words.specs.Buffers.{put};
 ghost use Rattle.frame_answers.specs.FrameAnswers.{refused_end, silent_end, abort_end, replied_end, reply_end, reply_line};
 
+use answers::entries::end_access;
 use answers::tables::meaning;
-use answers::{close, end_access, put_counted};
+use answers::{close, put_counted};
 use profile::refusals::Refusal;
 use server_frames::requests::{aborts, code_in, index_in, sub_in};
 use words::buffers::Buffer;

@@ -1,4 +1,4 @@
-// The eleven calls in place, for C.
+// The thirteen calls in place, for C.
 ghost use Rattle.std.specs.Prelude.{◌≡◌};
 ghost use Rattle.profile.specs.Calls.{Plain, Call, direct};
 ghost use Rattle.profile.specs.Replies.{plain};
@@ -13,7 +13,7 @@ use crate::causes::cause_of;
 use crate::which::message_of;
 use messages::received::receive;
 use messages::transmitted::transmit;
-use network::{clear, command, create, raise};
+use network::{clear, command, create, elapsed, heartbeat, raise};
 use objects::{read, write};
 use process::{drive, sample};
 use server::request;
@@ -134,4 +134,20 @@ pub extern "C" fn io401_request_arrays(
         (Call.request frame.now reply.old) (count_number result reply.new) store.new }
 {
     CountNumber::from(request(store, frame, reply))
+}
+
+#[unsafe(no_mangle)]
+pub extern "C" fn io401_heartbeat_arrays(store: &mut Store, node: u8) -> u32
+    ensures { Ensured store.old (direct (Plain.heartbeat node)) (plain result) store.new }
+{
+    heartbeat(store, node);
+    0
+}
+
+#[unsafe(no_mangle)]
+pub extern "C" fn io401_elapsed_arrays(store: &mut Store, milliseconds: u32) -> u32
+    ensures { Ensured store.old (Call.elapsed milliseconds) (plain result) store.new }
+{
+    elapsed(store, milliseconds);
+    0
 }

@@ -1,4 +1,4 @@
-// The device's eleven calls for firmware in C, in place on the device that the firmware lends: it is the header's io401_device. Each
+// The device's thirteen calls for firmware in C, in place on the device that the firmware lends: it is the header's io401_device. Each
 // exported function is the device's own and promises what it promises.
 #![tactic(auto)]
 

@@ -12,13 +12,13 @@ use lib.Seq.{get_or-set_same, get_or-set_other, ext_get_or}
 use borrow.Author.Tests.{eqb-true, eqb-false}
 use Rattle.std.proofs.lemmas.List.{take_min}
 use Rattle.profile.specs.Bytes.{list_from}
-use Rattle.profile.specs.MappedEntries.{moved, total}
+use Rattle.profile.specs.MappedEntries.{empty_mapping, moved, total}
 use Rattle.profile.specs.Mapping.{read_mapping, write_mapping}
 use Rattle.profile.proofs.ListLaws.{list_from_length, list_from_at, list_from_cong}
 use Rattle.profile.proofs.MappedLaws.{moved_small}
 use Rattle.channels.specs.View.{Zeroed}
 use Rattle.channels.proofs.StoreLaws.{outside_none, outside_set}
-use Rattle.mappings.specs.View.{place_of, mapping_at, MappingStored, MappingsEmptied, InForce}
+use Rattle.mappings.specs.View.{place_of, mapping_at, MappingStored, InForce}
 
 -- ---- a mapping read
 
@@ -44,7 +44,7 @@ read_is deltas m sub h = by (eqb sub 0) refl
 
 -- ---- a mapping written
 
-module _ (deltas : List ℕ) (m sub v : ℕ) (long : length deltas ≡ 120) (hm : m < 8) (hs : sub ≤ 8) where
+module _ (deltas : List ℕ) (m sub v : ℕ) (long : length deltas ≡ 128) (hm : m < 8) (hs : sub ≤ 8) where
   abbrev left : List ℕ
   left = set deltas (place_of m sub) v
 
@@ -113,15 +113,13 @@ module _ (deltas : List ℕ) (m sub v : ℕ) (long : length deltas ≡ 120) (hm 
 
 -- ---- every mapping emptied
 
-pub emptied_all : {deltas deltas' : List ℕ} → Zeroed 48 120 deltas deltas' → MappingsEmptied deltas deltas'
-emptied_all {deltas} {deltas'} z =
-    record {
-      mappings = λ i l. λ t. record {
-        count = z.zeros (place_of i 0) (omega arith) (omega (arith, l)) t;
-        entries = list_from_cong 8 0 (λ j. get_or deltas' (place_of i (1 + j)) 0) (λ j. 0)
-            (λ j s. z.zeros (place_of i (1 + j)) (omega arith) (omega (arith, l, s))) t;
-      };
-      deltas_kept = z.kept;
+pub emptied_all : {b : ℕ} {deltas deltas' : List ℕ} → 120 ≤ b → Zeroed 48 b deltas deltas' → (i : ℕ) → i < 8
+    → mapping_at deltas' i ≡ empty_mapping
+emptied_all {b} {deltas} {deltas'} h z i l =
+    λ t. record {
+      count = z.zeros (place_of i 0) (omega arith) (omega (arith, h, l)) t;
+      entries = list_from_cong 8 0 (λ j. get_or deltas' (place_of i (1 + j)) 0) (λ j. 0)
+          (λ j s. z.zeros (place_of i (1 + j)) (omega arith) (omega (arith, h, l, s))) t;
     }
 
 -- ---- the entries in force

@@ -2,7 +2,7 @@
 -- Assumes nothing.
 use Rattle.std.specs.Prelude.{◌≡◌, cond, List, ℕ, ◌+◌, ◌*◌, ◌≤◌, ◌<◌, eqb, get_or, take}
 use Rattle.profile.specs.Bytes.{list_from}
-use Rattle.profile.specs.MappedEntries.{Mapping, empty_mapping, listed}
+use Rattle.profile.specs.MappedEntries.{Mapping, listed}
 use Rattle.profile.specs.Mapping.{write_mapping}
 use Rattle.channels.specs.View.{Outside}
 
@@ -17,11 +17,6 @@ mapping_at deltas m =
 -- v was written to a sub-index of mapping m
 pub record MappingStored (m sub v : ℕ) (deltas deltas' : List ℕ) : Type 0 where
   pub mappings : (i : ℕ) → i < 8 → mapping_at deltas' i ≡ cond (eqb i m) (write_mapping sub v (mapping_at deltas i)) (mapping_at deltas i)
-  pub deltas_kept : Outside 48 120 0 deltas deltas'
-
--- all eight became empty
-pub record MappingsEmptied (deltas deltas' : List ℕ) : Type 0 where
-  pub mappings : (i : ℕ) → i < 8 → mapping_at deltas' i ≡ empty_mapping
   pub deltas_kept : Outside 48 120 0 deltas deltas'
 
 -- so many of the entries are in force

@@ -9,7 +9,7 @@ ghost use Rattle.profile.specs.Refusals.{first, mapping_checks};
 ghost use Rattle.mappings.specs.View.{mapping_at, MappingStored, InForce};
 ghost use Rattle.channels.specs.View.{Zeroed};
 
-use channels::fields::{DELTAS, Deltas, zero_deltas};
+use channels::fields::{Deltas, zero_deltas};
 use dictionary::entries::find;
 use profile::refusals::Refusal;
 use profile::{Home, Message};
@@ -19,6 +19,9 @@ pub const MAPPINGS: usize = 48;
 
 // Of these the transmit mappings.
 const TRANSMITTED: usize = 84;
+
+// Past the last.
+const PAST: usize = 120;
 
 // The numbers of a mapping: the count and eight entries, by sub-index.
 const NUMBERS: usize = 9;
@@ -126,7 +129,7 @@ pub fn empty_received(deltas: &mut Deltas)
 pub fn empty_transmitted(deltas: &mut Deltas)
     ensures { Zeroed 84 120 deltas.old deltas.new }
 {
-    zero_deltas(deltas, TRANSMITTED, DELTAS);
+    zero_deltas(deltas, TRANSMITTED, PAST);
 }
 
 // All eight entries of a mapping, in force or not.

@@ -53,6 +53,10 @@ heard_both {d} {e} {f} cs ds p q =
       normal = λ n. q.normal (p.normal n);
     }
 
+pub heard_none : (d : Store) (m : ℕ) (vs frame : List ℕ) → length vs < 1 → Heard d (frame_writes m vs frame) d
+heard_none d m [] frame h = record { machines = record { at = λ k i l. refl }; normal = λ n. n }
+heard_none d m (v ∷ vs) frame h = absurd (omega arith)
+
 pub heard_more : {d e f : Store} (m : ℕ) (vs frame bytes rest : List ℕ) → 1 ≤ length vs
     → bytes ≡ take (moved m (get_or vs 0 0)) frame → rest ≡ drop (moved m (get_or vs 0 0)) frame
     → Heard d (entry_writes m (get_or vs 0 0) bytes) e → Heard e (frame_writes m (between 1 (length vs) vs) rest) f
@@ -94,7 +98,9 @@ replied ms message frame = refl
 pub next_byte : (n i v : ℕ) → i < n → bytes_of (n - i) v ≡ v % 256 ∷ bytes_of (n - (i + 1)) (v / 256)
 next_byte n i v h = let more : n - i ≡ suc (n - (i + 1)) = omega arith in ap (λ (k : ℕ). bytes_of k v) more
 
--- what the check is told at `transmit` and at `put`
+-- what the check is told at `write_each`, at `transmit` and at `put`
+pub ruleset for_write_each = (heard_none, heard_more)
+
 pub ruleset for_transmit = (replied, nonzero)
 
 pub ruleset for_put = (next_byte, common_steps)

@@ -38,7 +38,7 @@ fn obey(store: &mut Store, m: usize, entries: &[u32], frame: &[u8])
 }
 
 // The first entry takes the front of the frame, the others the rest.
-#[tactic(auto, using(crate::proofs::FrameLaws::heard_more))]
+#[tactic(auto, using(crate::proofs::FrameLaws::for_write_each))]
 fn write_each(store: &mut Store, m: usize, entries: &[u32], frame: &[u8])
     requires { mapped.total m entries.now ≤ length frame.now }
     ensures { Heard store.old (frame_writes m entries.now frame.now) store.new }

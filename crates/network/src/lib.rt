@@ -1,10 +1,10 @@
-// create, command, raise and clear, in place.
+// create, command, raise and clear, and heartbeat and elapsed, in place.
 #![tactic(auto)]
 
 ghost use Rattle.std.specs.Prelude.{◌≡◌};
 ghost use Rattle.profile.specs.Numbers.{number_answered};
 ghost use Rattle.profile.specs.Answers.{plain_answer};
-ghost use Rattle.profile.specs.Calls.{Plain, direct};
+ghost use Rattle.profile.specs.Calls.{Plain, Call, direct};
 ghost use Rattle.profile.specs.Replies.{plain};
 ghost use Rattle.store.specs.Promises.{FreshAs, Ensured, Entered};
 
@@ -39,10 +39,11 @@ pub fn command(store: &mut Store, code: u8, to: u8) -> Result<(), Refusal>
     match command {
         Command::ResetNode => store.set_fresh(was.number),
         Command::ResetCommunication => {
-            // The mappings empty in two parts with other stores between: one fill of more than 256 bytes is compiled to a call of memset.
+            // What empties does in parts with other stores between: one fill of more than 256 bytes is compiled to a call of memset.
             empty_received(&mut store.deltas);
             enter(store, new);
             empty_transmitted(&mut store.deltas);
+            watches::empty(&mut store.deltas);
         }
         _ => enter(store, new),
     }
@@ -63,6 +64,21 @@ pub fn clear(store: &mut Store, cause: Cause)
 {
     let new = cleared(store.node(), cause);
     enter(store, new);
+}
+
+pub fn heartbeat(store: &mut Store, node: u8)
+    ensures { Ensured store.old (direct (Plain.heartbeat node)) (plain 0) store.new }
+{
+    watches::heartbeat(&mut store.deltas, node);
+}
+
+// An entry of the watch that reaches its time raises communication loss.
+pub fn elapsed(store: &mut Store, milliseconds: u32)
+    ensures { Ensured store.old (Call.elapsed milliseconds) (plain 0) store.new }
+{
+    if watches::pass(&mut store.deltas, milliseconds) {
+        raise(store, Cause::Lost);
+    }
 }
 
 // The node is stored, and where fault begins or ends every output moves.

@@ -30,6 +30,10 @@ at_end m (w ∷ ws) = unknown Ex.End
 abbrev pub small : List ℕ → Meaning → Meaning
 small w m = cond (ltb 255 (number_of 10 w)) (unknown Ex.Small) m
 
+-- a word is a decimal number from 0 to 4294967295
+abbrev pub milliseconds : List ℕ → Meaning → Meaning
+milliseconds w m = cond (ltb 4294967295 (number_of 10 w)) (unknown Ex.Milliseconds) m
+
 -- `create 5`
 unfoldable pub create_meaning : List (List ℕ) → Meaning
 create_meaning ws = small (first_of ws) (at_end (create (number_of 10 (first_of ws))) (others_of ws))
@@ -56,6 +60,15 @@ cause_meaning f w =
 
 unfoldable pub fault_meaning : (Cause → Doc.Plain) → List (List ℕ) → Meaning
 fault_meaning f ws = at_end (cause_meaning f (first_of ws)) (others_of ws)
+
+-- `heartbeat 5`: "a heartbeat of that node, 0 to 255"
+unfoldable pub heartbeat_meaning : List (List ℕ) → Meaning
+heartbeat_meaning ws =
+    small (first_of ws) (at_end (call (Doc.direct (Doc.Plain.heartbeat (number_of 10 (first_of ws))))) (others_of ws))
+
+-- `elapsed 100`: "milliseconds, 0 to 4294967295"
+unfoldable pub elapsed_meaning : List (List ℕ) → Meaning
+elapsed_meaning ws = milliseconds (first_of ws) (at_end (call (Doc.elapsed (number_of 10 (first_of ws)))) (others_of ws))
 
 -- bytes up to the line's end, and the call that has them
 abbrev pub bytes_meaning : (List ℕ → Doc.Call) → Found ℕ → Meaning
@@ -163,14 +176,16 @@ named_command w ws =
     (cond (is_word w (ascii "reset-communication")) (named_meaning 130 ws)
     (access_meaning w ws)))))
 
--- `create`, `command`, `raise`, `clear`; then the commands by name
+-- `create`, `command`, `raise`, `clear`, `heartbeat`, `elapsed`; then the commands by name
 unfoldable pub plain_meaning : List ℕ → List (List ℕ) → Meaning
 plain_meaning w ws =
     cond (is_word w (ascii "create")) (create_meaning ws)
     (cond (is_word w (ascii "command")) (command_meaning ws)
     (cond (is_word w (ascii "raise")) (fault_meaning Doc.Plain.raise ws)
     (cond (is_word w (ascii "clear")) (fault_meaning Doc.Plain.clear ws)
-    (named_command w ws))))
+    (cond (is_word w (ascii "heartbeat")) (heartbeat_meaning ws)
+    (cond (is_word w (ascii "elapsed")) (elapsed_meaning ws)
+    (named_command w ws))))))
 
 -- `sample`, `drive`, `receive`, `transmit`, `request`; then the calls without buffers
 unfoldable pub words_meaning : List (List ℕ) → Meaning

@@ -5,7 +5,7 @@ use Rattle.profile.specs.declared.Cause.{Cause}
 use Rattle.profile.specs.Calls as Doc
 use Rattle.notation.specs.declared.Call.{Call}
 use Rattle.notation.specs.declared.Call.TheVariants.{Nothing, Create, Read, Write, Sample, Command, Raise, Clear, Drive}
-use Rattle.notation.specs.declared.Call.TheVariants.{Receive, Transmit, Request}
+use Rattle.notation.specs.declared.Call.TheVariants.{Receive, Transmit, Request, Heartbeat, Elapsed}
 use Rattle.words.specs.declared.Expected.{Expected}
 use Rattle.words.specs.Words.{words_of}
 use Rattle.words.specs.Items.{byte_item, items_of}
@@ -27,6 +27,8 @@ said (Ok (Drive lines channels)) = call (Doc.direct (Doc.Plain.drive lines.items
 said (Ok (Receive message frame)) = call (Doc.receive message frame.items)
 said (Ok (Transmit message frame)) = call (Doc.transmit message frame.items)
 said (Ok (Request frame lent)) = call (Doc.request frame.items lent.items)
+said (Ok (Heartbeat node)) = call (Doc.direct (Doc.Plain.heartbeat node))
+said (Ok (Elapsed t)) = call (Doc.elapsed t)
 
 -- some bytes, of which there may be `most`, are those of a line up to its end
 pub record LastBytes (most : ℕ) (line bytes : List ℕ) : Type 0 where

@@ -9,6 +9,7 @@ ghost use Rattle.notation.specs.Meanings.{access_meaning, entry_meaning, sub_ind
 
 use crate::Call;
 use crate::bytes::{filled, last_bytes};
+use crate::heartbeats::{elapsed, heartbeat};
 use crate::messages::{receive, transmit};
 use crate::parts::{end, past_slash, small};
 use crate::requests::request;
@@ -64,6 +65,12 @@ fn plain_call(word: &[u8], rest: &[u8]) -> Result<Call, Expected>
     }
     if word == b"clear".as_slice() {
         return cause(rest).map(Call::Clear);
+    }
+    if word == b"heartbeat".as_slice() {
+        return heartbeat(rest);
+    }
+    if word == b"elapsed".as_slice() {
+        return elapsed(rest);
     }
     named_command(word, rest)
 }
@@ -147,7 +154,9 @@ fn access(word: &[u8], rest: &[u8]) -> Result<Call, Expected>
     ensures { said result ≡ access_meaning word.now (words_of rest.now) }
 {
     let colon = until(word, b':');
-    let index = hexadecimal(&word[..colon], 4).ok_or(Expected::Call)?;
+    let index = hexadecimal(&word[..colon], 4)
+        .and_then(|n| u16::try_from(n).ok())
+        .ok_or(Expected::Call)?;
     let sub = sub_index(&word[colon..])?;
     entry(index, sub, rest)
 }

@@ -10,6 +10,8 @@ mod bytes;
 pub mod calls;
 // A receive or a transmit, by the words after it.
 mod messages;
+// A heartbeat or an elapsed call, by the words after it.
+mod heartbeats;
 // A number, a slash or the end, as the next thing in a line.
 mod parts;
 // A request, by the words after it.
@@ -40,4 +42,8 @@ pub enum Call {
     Transmit(Message, ArrayVec<u8, 64>),
     // The request's bytes, and the bytes of the reply as it is lent.
     Request(ArrayVec<u8, 64>, ArrayVec<u8, 64>),
+    // Node number.
+    Heartbeat(u8),
+    // Milliseconds.
+    Elapsed(u32),
 }

@@ -17,6 +17,13 @@ pub fn small(word: &[u8]) -> Result<u8, Expected>
         .ok_or(Expected::Small)
 }
 
+// A number from 0 to 4294967295.
+pub fn milliseconds(word: &[u8]) -> Result<u32, Expected>
+    ensures { result ≡ up_to 4294967295 Expected.Milliseconds (number_of 10 word.now) }
+{
+    decimal(word).ok_or(Expected::Milliseconds)
+}
+
 // What follows the `/` at which a list ended.
 pub fn past_slash(rest: &[u8]) -> Result<&[u8], Expected>
     ensures { MatchResult result (λ more. (is_blank rest.now ≡ false) × (more.now ≡ after_word rest.now))

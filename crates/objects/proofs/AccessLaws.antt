@@ -24,7 +24,7 @@ use Rattle.channels.specs.Numbers.{NumberOf}
 use Rattle.store.specs.Promises.{Ensured, Stepped, Readable, Writable, wrote, held_by}
 use Rattle.store.proofs.EntryLaws.{entry_readable, data_short, entry_writable}
 use Rattle.store.proofs.KeepLaws.{left_alone, taken}
-use Rattle.store.proofs.StepLaws.{window_stepped, input_stepped, output_stepped, mapping_stepped}
+use Rattle.store.proofs.StepLaws.{window_stepped, input_stepped, output_stepped, mapping_stepped, watch_stepped}
 use Rattle.store.proofs.OutcomeLaws.{refused_outcome, access_refused, value_refused, write_outcome}
 
 -- the rows of an entry that is not there
@@ -132,4 +132,4 @@ module _ (index sub : ℕ) (e : code.Entry) (found : present e ≡ entry_of inde
 -- what the check is told at `write` and at `after_write`
 pub ruleset for_write = (short_at, writable_at)
 
-pub ruleset for_after_write = (window_stepped, input_stepped, output_stepped, mapping_stepped)
+pub ruleset for_after_write = (window_stepped, input_stepped, output_stepped, mapping_stepped, watch_stepped)

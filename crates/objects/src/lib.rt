@@ -64,6 +64,7 @@ fn value_at(store: &Store, home: Home) -> u32
         Home::Sources => read_sources(&store.octets),
         Home::Device(index) => nodes::read(store.node(), index),
         Home::MappingEntry(m, sub) => mappings::read(&store.deltas, m, sub),
+        Home::WatchEntry(n) => watches::read(&store.deltas, n),
     }
 }
 
@@ -91,7 +92,7 @@ pub fn write(store: &mut Store, index: u16, sub: u8, bytes: &[u8]) -> Result<(),
     Ok(())
 }
 
-// A write's rows on its value: of any entry, then of a mapping.
+// A write's rows on its value: of any entry, then of a mapping or of the watch.
 fn check_written(deltas: &Deltas, entry: Entry, value: u32) -> Result<(), Refusal>
     requires { Readable entry.home }
     ensures { number_answered result
@@ -100,6 +101,7 @@ fn check_written(deltas: &Deltas, entry: Entry, value: u32) -> Result<(), Refusa
     check_value(entry, value)?;
     match entry.home {
         Home::MappingEntry(m, sub) => mappings::check(deltas, m, sub, value),
+        Home::WatchEntry(n) => watches::check(deltas, n, value),
         _ => Ok(()),
     }
 }
@@ -134,6 +136,7 @@ fn after_write(store: &mut Store, home: Home, value: u32)
         ),
         Home::Device(index) => store.set_node(written(was, index, value)),
         Home::MappingEntry(m, sub) => mappings::write(&mut store.deltas, m, sub, value),
+        Home::WatchEntry(n) => watches::write(&mut store.deltas, n, value),
         Home::Constant(_) | Home::Sources => {}
     }
 }

@@ -5,7 +5,7 @@ use mathlib.Core.Bool.{false}
 use lib.Dec.{eqb}
 use borrow.Author.Tests.{eqb-false}
 use Rattle.profile.specs.declared.refusals.Refusal.{Refusal}
-use Rattle.profile.specs.declared.refusals.Refusal.TheVariants.{NodeNumber, CommandCode, DigitalLength, AnalogueLength, FilledLength, DriveLength, RequestLength, Stopped, NoObject, NoSubIndex, ReadOnly, TooLong, TooShort, NotAllowed, TooHigh, TooLow, CountNotZero, NotMappable, MappingTooLong}
+use Rattle.profile.specs.declared.refusals.Refusal.TheVariants.{NodeNumber, CommandCode, DigitalLength, AnalogueLength, FilledLength, DriveLength, RequestLength, Stopped, NoObject, NoSubIndex, ReadOnly, TooLong, TooShort, NotAllowed, TooHigh, TooLow, CountNotZero, NotMappable, MappingTooLong, NodeTwice}
 use Rattle.profile.specs.Numbers.{refusal_number}
 
 pub nonzero : (r : Refusal) → eqb (refusal_number r) 0 ≡ false
@@ -28,6 +28,7 @@ nonzero TooLow = refl
 nonzero CountNotZero = refl
 nonzero NotMappable = refl
 nonzero MappingTooLong = refl
+nonzero NodeTwice = refl
 
 pub not_accepted : (r : Refusal) → refusal_number r ≡ 0 → ⊥
 not_accepted r = eqb-false (refusal_number r) 0 (nonzero r)

@@ -3,7 +3,7 @@
 use mathlib.Core.Path.{◌≡◌, refl, ap}
 use mathlib.Core.Bool.{Bool, true, false, not, cond, ◌||◌, ◌&&◌, beq, false≢true}
 use mathlib.Core.List.{List, [], ◌∷◌}
-use Prim.Native.Nat.{ℕ, ◌+◌, ◌/◌, ◌%◌, ◌≤◌, ◌<◌}
+use Prim.Native.Nat.{ℕ, ◌+◌, ◌≤◌, ◌<◌}
 use native.Mathlib.Nat.{add-zero}
 use native.Mathlib.Omega.{arith}
 use lib.Dec.{eqb, ltb}
@@ -14,12 +14,11 @@ use Rattle.profile.specs.declared.Node.{Node}
 use Rattle.profile.specs.declared.Cause.TheVariants.{Internal, Lost}
 use Rattle.profile.specs.Entries.{Entry}
 use Rattle.profile.specs.declared.Home.{Home}
-use Rattle.profile.specs.declared.Home.TheVariants.{Constant, Window, InputChannel, OutputChannel, Sources, Device, MappingEntry}
+use Rattle.profile.specs.declared.Home.TheVariants.{Constant, Window, InputChannel, OutputChannel, Sources, Device, MappingEntry, WatchEntry}
 use Rattle.profile.specs.Bytes.{little_endian, line_bit}
 use Rattle.profile.specs.Nodes.{stopped, fresh_node, raise_node, clear_node, addressed, obey_node}
-use Rattle.profile.specs.Entries.{table, width_of, place, absent_entry, Object, at, window, Row, objects, lookup}
 use Rattle.profile.specs.Entries.{object_of, entry_of, home_of, not_allowed, above_range, below_range, at_device}
-use Rattle.profile.specs.Calls.{Plain, read, write, sample, command, raise, clear, drive, Call, direct}
+use Rattle.profile.specs.Calls.{Plain, read, write, sample, command, raise, clear, drive, heartbeat, pass, Call, direct}
 use Rattle.profile.specs.Refusals.{Conditions, write_refusal, is_command, command_refusal, refusal, sample_refusal, accepted}
 use Rattle.profile.specs.NodeAlone.{device_wide, write_node, next_node}
 use Rattle.profile.specs.InputLine.{InputLine, settle, sample_line, edge, line_event}
@@ -30,6 +29,7 @@ use Rattle.profile.specs.FilterLength.{with_length, LengthObeyed, LengthReset}
 use Rattle.profile.proofs.BoolLaws.{both, neither, picked}
 use Rattle.profile.proofs.NodesAgree.{bare, node_by, node_step, step_node, after_node}
 use Rattle.profile.proofs.RefusalLaws.{write_passed}
+use Rattle.profile.proofs.EntryTests.{entry_passes}
 use Rattle.profile.proofs.StepLaws.{cond_same, setting_owns, write_step, sample_step, command_step}
 
 -- ---- a write of 2003
@@ -144,40 +144,6 @@ tested index e h =
 abbrev passes : ℕ → Entry → Bool
 passes index e = tested index e e.home
 
--- every object of a list passes at its own index
-abbrev all_pass : List Row → Bool
-all_pass [] = true
-all_pass (r ∷ rs) = passes r.index r.object.count && (passes r.index r.object.entry && all_pass rs)
-
--- an object has at a sub-index nothing, its entry count, or its entry
-pub at_holds : (P : Entry → Type 0) (sub : ℕ) (o : Object) → P (absent_entry 0x06090011) → P o.count → P o.entry → P (at sub o)
-at_holds P sub o a p q =
-    picked P (ltb o.last sub) (absent_entry 0x06090011) (cond (eqb sub 0 && not (eqb o.last 0)) o.count o.entry) (λ e. a)
-    (λ e. picked P (eqb sub 0 && not (eqb o.last 0)) o.count o.entry (λ e. p) (λ e. q))
-
-module _ (sub index : ℕ) where
-  abbrev Pass : Entry → Type 0
-  Pass e = passes index e ≡ true
-
-  found_passes : (r : Row) (t : Bool) (rest : Entry) → eqb index r.index ≡ t → passes r.index r.object.count ≡ true
-      → passes r.index r.object.entry ≡ true → Pass rest → Pass (elim t [ true ↦ at sub r.object | false ↦ rest ])
-  found_passes r true rest e p q f = let x = eqb-true index r.index e in at_holds Pass sub r.object refl (rw x p) (rw x q)
-  found_passes r false rest e p q f = f
-
-  lookup_passes : (rs : List Row) → all_pass rs ≡ true → Pass (lookup sub rs index)
-  lookup_passes [] p = refl
-  lookup_passes (r ∷ rs) p =
-      let a = both (passes r.index r.object.count) (passes r.index r.object.entry && all_pass rs) p in
-      let b = both (passes r.index r.object.entry) (all_pass rs) a.1 in
-      found_passes r (eqb index r.index) (lookup sub rs index) refl a.0 b.0 (lookup_passes rs b.1)
-
-  entry_passes : Pass (entry_of index sub)
-  unfolding entry_of object_of
-  entry_passes =
-      let p = place table index in
-      picked Pass (ltb p 44) (at sub (window (p / 4) (width_of (p % 4)) sub)) (lookup sub (objects sub) index)
-      (λ e. at_holds Pass sub (window (p / 4) (width_of (p % 4)) sub) refl refl refl) (λ e. lookup_passes (objects sub) refl)
-
 -- ---- what a plain call does to the length
 
 module _ (P : ℕ → Type 0) (index v : ℕ) (e : Entry) (n : Node) (kept : P n.length) (given : LengthEntry index e → P v) where
@@ -197,6 +163,7 @@ module _ (P : ℕ → Type 0) (index v : ℕ) (e : Entry) (n : Node) (kept : P n
   home_length Sources t = kept
   home_length (Device x) t = device_length (eqb x 0x2003) t
   home_length (MappingEntry m sub) t = kept
+  home_length (WatchEntry c) t = kept
 
 -- a call that writes the length writes one that has the property
 abbrev pub Gives : (ℕ → Type 0) → Plain → Type 0
@@ -222,7 +189,7 @@ module _ (P : ℕ → Type 0) (fresh : P 3) where
   next_length (read index sub) n p w = p
   next_length (write index sub payload) n p w =
       home_length P index (little_endian payload) (entry_of index sub) n p (w index sub payload refl) (home_of index sub)
-      (entry_passes sub index)
+      (entry_passes passes index sub refl refl (λ row c h. (refl, refl)) refl)
   next_length (sample digital analogue events) n p w = p
   next_length (command code to) n p w = either (addressed to n) _ n (obeyed_length code n p) p
   next_length (raise Internal) n p w = p
@@ -230,6 +197,8 @@ module _ (P : ℕ → Type 0) (fresh : P 3) where
   next_length (clear Internal) n p w = p
   next_length (clear Lost) n p w = p
   next_length (drive lines channels) n p w = p
+  next_length (heartbeat node) n p w = p
+  next_length (pass t) n p w = p
 
   pub step_length : (c : Plain) (n : Node) → P n.length → (accepted (bare n) c ≡ true → Gives P c) → P (node_step c n).length
   step_length c n p w =

@@ -9,26 +9,28 @@ use lib.Dec.{eqb, ltb, leb}
 use lib.ListN.{length, take, drop}
 use borrow.Author.Tests.{eqb-true, ltb-true, ltb-false, leb-false}
 use Rattle.profile.specs.declared.Node.{Node}
+use Rattle.profile.specs.declared.Cause.TheVariants.{Lost}
 use Rattle.profile.specs.declared.Home.TheVariants.{Device}
 use Rattle.profile.specs.Bits.{gather}
 use Rattle.profile.specs.Bytes.{little_endian, line_bit}
 use Rattle.profile.specs.Nodes.{operational, addressed}
 use Rattle.profile.specs.Entries.{setting, object_of, entry_of, home_of}
 use Rattle.profile.specs.MappedEntries.{received, index_of, sub_of, mappable, moves, moved, total}
-use Rattle.profile.specs.Calls.{Plain, read, write, sample, command, raise, clear, drive, on_sample}
-use Rattle.profile.specs.Calls.{Call, direct, receive, transmit, request}
+use Rattle.profile.specs.Calls.{Plain, read, write, sample, command, raise, clear, drive, heartbeat, pass, on_sample}
+use Rattle.profile.specs.Calls.{Call, direct, receive, transmit, request, elapsed}
 use Rattle.profile.specs.Refusals.{accepted}
 use Rattle.profile.specs.Server.{asked}
 use Rattle.profile.specs.NodeAlone.{device_wide, next_node}
 use Rattle.profile.specs.InputLine.{InputLine, fresh_input_line, sample_line, edge, line_event, write_input_line}
+use Rattle.profile.specs.Watch.{is_due}
 use Rattle.profile.specs.Machines.{Kind, node_alone, input_line, output_line, analogue_input, analogue_output, mapping, Machine}
-use Rattle.profile.specs.Machines.{fresh_machine, call_names, hears, next_own, next, known, hear, step}
+use Rattle.profile.specs.Machines.{fresh_machine, call_names, hears, next_own, next, known, hear, step, watch}
 use Rattle.profile.specs.Heard.{Machines, fresh_machines, fold, number_of, in_force, frame_writes, served}
 use Rattle.profile.specs.Heard.{heard_as, step_all, spoken}
 use Rattle.profile.specs.Replies.{sample_reply, line_events, channel_events, answer, answer_to, refuse_to, reply}
-use Rattle.profile.specs.Lists.{after}
+use Rattle.profile.specs.Lists.{after, each}
 use Rattle.profile.specs.FilterLength.{sample_line01, edge01, line_event01, step_line01, step01, after01, line_events01, reply01}
-use Rattle.profile.specs.FilterLength.{on_plain, on_access, each, leaves_three, every, AsBefore, sampled_with, last_length, largest, largest_since}
+use Rattle.profile.specs.FilterLength.{on_plain, on_access, leaves_three, AsBefore, sampled_with, last_length, largest, largest_since}
 use Rattle.profile.proofs.HomeLaws.{window_holds}
 use Rattle.profile.proofs.ListLaws.{bytes_cong}
 use Rattle.profile.proofs.BoolLaws.{both, picked}
@@ -37,7 +39,8 @@ use Rattle.profile.proofs.ReplyLaws.{heard_cong}
 use Rattle.profile.proofs.ListTheorem.{ran, after_spoken, after_ran}
 use Rattle.profile.proofs.NodesAgree.{step_node}
 use Rattle.profile.proofs.StepLaws.{cond_same, made}
-use Rattle.profile.proofs.LengthLaws.{at_holds, step_length, Bounded, step_bounded, fold_holds}
+use Rattle.profile.proofs.EntryTests.{at_holds}
+use Rattle.profile.proofs.LengthLaws.{step_length, Bounded, step_bounded, fold_holds}
 
 -- ---- the count after any list
 
@@ -90,6 +93,8 @@ module _ (i n : ℕ) (m : Machine input_line) (b : Bounded m.node.length) (h : m
   step_count (raise cause) = other (raise cause) h
   step_count (clear cause) = other (clear cause) h
   step_count (drive lines channels) = other (drive lines channels) h
+  step_count (heartbeat node) = other (heartbeat node) h
+  step_count (pass t) = other (pass t) h
 
 -- the largest length since the count was 0 is above it too
 largest_above : (n : ℕ) (m : Machine input_line) → 1 ≤ m.node.length → m.own.count < max n m.node.length
@@ -168,6 +173,8 @@ line_step i (command code to) m h = refl
 line_step i (raise cause) m h = refl
 line_step i (clear cause) m h = refl
 line_step i (drive lines channels) m h = refl
+line_step i (heartbeat node) m h = refl
+line_step i (pass t) m h = refl
 
 step_before : (k : Kind) (i : ℕ) (c : Plain) (m : Machine k) → m.node.length ≡ 3 → step k i c m ≡ step01 k i c m
 step_before node_alone i c m h = refl
@@ -176,6 +183,7 @@ step_before output_line i c m h = refl
 step_before analogue_input i c m h = refl
 step_before analogue_output i c m h = refl
 step_before mapping i c m h = refl
+step_before watch i c m h = refl
 
 step_three : (k : Kind) (i : ℕ) (c : Plain) (m : Machine k) → leaves_three (direct c) ≡ true → m.node.length ≡ 3
     → (step k i c m).node.length ≡ 3
@@ -226,6 +234,8 @@ plain_asked f g (command code to) = refl
 plain_asked f g (raise cause) = refl
 plain_asked f g (clear cause) = refl
 plain_asked f g (drive lines channels) = refl
+plain_asked f g (heartbeat node) = refl
+plain_asked f g (pass t) = refl
 
 asked_leaves : (cs : List Plain)
     → each (on_plain (λ index. true) (λ index payload. not (eqb index 0x2003) || eqb (little_endian payload) 3)) cs ≡ true → Leave cs
@@ -246,13 +256,14 @@ heard_leaves ms (receive message frame) h =
 heard_leaves ms (transmit message frame) h = tt
 heard_leaves ms (request frame buffer) h =
     picked Leave (served (ms node_alone 0).node frame buffer) (asked frame) [] (λ e. asked_leaves (asked frame) h) (λ e. tt)
+heard_leaves ms (elapsed t) h = (refl, picked Leave (is_due t (ms watch 0).own) (raise Lost ∷ []) [] (λ e. (refl, tt)) (λ e. tt))
 
 -- two families, over a list of calls
-run_alike : (cs : List Call) → every leaves_three cs ≡ true → (a b : Machines) → ((k : Kind) (i : ℕ) → Alike k (a k i) (b k i))
+run_alike : (cs : List Call) → each leaves_three cs ≡ true → (a b : Machines) → ((k : Kind) (i : ℕ) → Alike k (a k i) (b k i))
     → (k : Kind) (i : ℕ) → Alike k (ran a cs k i) (after01 b cs k i)
 run_alike [] h a b p = p
 run_alike (c ∷ cs) h a b p =
-    let q = both (leaves_three c) (every leaves_three cs) h in
+    let q = both (leaves_three c) (each leaves_three cs) h in
     let heard = heard_cong a b (record { at = λ k i l. (p k i).same }) c in
     run_alike cs q.1 (step_all c a) (λ k i. fold (step01 k i) (b k i) (heard_as b c))
     (λ k i. rw (sym heard) (fold_alike k i (heard_as a c) (heard_leaves a c q.0) (a k i) (b k i) (p k i)))
@@ -275,15 +286,18 @@ reply_before ms h (command code to) = refl
 reply_before ms h (raise cause) = refl
 reply_before ms h (clear cause) = refl
 reply_before ms h (drive lines channels) = refl
+reply_before ms h (heartbeat node) = refl
+reply_before ms h (pass t) = refl
 
 answer_before : (ms : Machines) → ((i : ℕ) → (ms input_line i).node.length ≡ 3) → (c : Call) → reply ms c ≡ reply01 ms c
 answer_before ms h (direct c) = reply_before ms h c
 answer_before ms h (receive message frame) = refl
 answer_before ms h (transmit message frame) = refl
 answer_before ms h (request frame buffer) = refl
+answer_before ms h (elapsed t) = refl
 
 -- where nothing but 3 is written to 2003, every machine and every answer is what document 01's rule makes it
-pub length_left : (number : ℕ) (cs : List Call) → every leaves_three cs ≡ true → AsBefore number cs
+pub length_left : (number : ℕ) (cs : List Call) → each leaves_three cs ≡ true → AsBefore number cs
 length_left number cs h =
     record {
       machines = λ k i. (alike k i).same;

@@ -8,7 +8,7 @@ use lib.Dec.{eqb, leb}
 use borrow.Author.Tests.{eqb-true, leb-true, ne_eqb}
 use Rattle.profile.specs.Entries.{Entry}
 use Rattle.profile.specs.declared.Home.{Home}
-use Rattle.profile.specs.declared.Home.TheVariants.{Constant, Window, InputChannel, OutputChannel, Sources, Device, MappingEntry}
+use Rattle.profile.specs.declared.Home.TheVariants.{Constant, Window, InputChannel, OutputChannel, Sources, Device, MappingEntry, WatchEntry}
 use Rattle.profile.specs.MappedEntries.{receives, index_of, sub_of, bits_of, mapped_entry, mappable, moves, moved}
 use Rattle.profile.proofs.BoolLaws.{both}
 use Rattle.profile.proofs.EntryRanges.{InRange, in_range}
@@ -71,6 +71,7 @@ module _ (m : ℕ) (e : Entry) where
   present Sources r p = absurd (false≢true p)
   present (Device index) r p = absurd (false≢true p)
   present (MappingEntry j sub) r p = absurd (false≢true p)
+  present (WatchEntry n) r p = absurd (false≢true p)
 
 pub moving_present : (m v : ℕ) → moves m v ≡ true → Present m (mapped_entry v)
 moving_present m v h = present m (mapped_entry v) (mapped_entry v).home (in_range (index_of v) (sub_of v)) (moving m v h).mapped

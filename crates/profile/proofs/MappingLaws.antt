@@ -11,17 +11,17 @@ use borrow.Author.Tests.{eqb-true, ltb-false, leb-true, not-false}
 use Rattle.profile.specs.declared.Node.{Node}
 use Rattle.profile.specs.Entries.{Entry}
 use Rattle.profile.specs.declared.Home.{Home}
-use Rattle.profile.specs.declared.Home.TheVariants.{Constant, Window, InputChannel, OutputChannel, Sources, Device, MappingEntry}
+use Rattle.profile.specs.declared.Home.TheVariants.{Constant, Window, InputChannel, OutputChannel, Sources, Device, MappingEntry, WatchEntry}
 use Rattle.profile.specs.Bytes.{little_endian}
 use Rattle.profile.specs.Nodes.{addressed}
-use Rattle.profile.specs.Entries.{home_of, any, at_mapping}
+use Rattle.profile.specs.Entries.{home_of, any}
 use Rattle.profile.specs.MappedEntries.{Mapping, empty_mapping, listed, receives, index_of, sub_of, mapped_entry, mappable, moves, total}
 use Rattle.profile.specs.Mapping.{write_mapping}
-use Rattle.profile.specs.Calls.{Plain, read, write, sample, command, raise, clear, drive, Call}
-use Rattle.profile.specs.Refusals.{first, mapping_checks, accepted}
+use Rattle.profile.specs.Calls.{Plain, read, write, sample, command, raise, clear, drive, heartbeat, pass, Call}
+use Rattle.profile.specs.Refusals.{first, mapping_checks, accepted, Holdings, held_checks}
 use Rattle.profile.specs.NodeAlone.{writes_setting, device_wide}
 use Rattle.profile.specs.Machines.{mapping, Machine, fresh_machine, entry_names, call_names, hears, write_own}
-use Rattle.profile.specs.Machines.{next_own, next, known, hear, step}
+use Rattle.profile.specs.Machines.{next_own, next, known, hear, step, rules_of}
 use Rattle.profile.specs.Heard.{fresh_machines, fold, spoken}
 use Rattle.profile.specs.Lists.{after}
 use Rattle.profile.proofs.BoolLaws.{neither}
@@ -92,7 +92,7 @@ module _ (m : ℕ) (o : Mapping) (s : SoundMapping m o) (sub v : ℕ) where
       written_by (eqb sub 0) none.0 none.1.0 none.1.1.0
 
 entry_sound : (e : Home) (v i : ℕ) (n : Node) (o : Mapping) → writes_setting e || entry_names e mapping i ≡ true
-    → first (at_mapping [] (λ m sub. mapping_checks o m sub v) e) ≡ 0 → SoundMapping i o → SoundMapping i (write_own e v mapping i n o)
+    → first (held_checks ((rules_of mapping).holds o) e v) ≡ 0 → SoundMapping i o → SoundMapping i (write_own e v mapping i n o)
 entry_sound (Constant x) v i n o h z s = s
 entry_sound (Window row w k) v i n o h z s = s
 entry_sound (InputChannel index k) v i n o h z s = s
@@ -101,6 +101,7 @@ entry_sound Sources v i n o h z s = s
 entry_sound (Device index) v i n o h z s = s
 entry_sound (MappingEntry m sub) v i n o h z s =
     written_sound i o s sub v (ap (λ (x : ℕ). first (mapping_checks o x sub v)) (eqb-true i m h) ∙ z)
+entry_sound (WatchEntry k) v i n o h z s = s
 
 -- ---- any call, and any list
 
@@ -122,6 +123,8 @@ next_sound i (command code to) x h t s =
 next_sound i (raise cause) x h t s = s
 next_sound i (clear cause) x h t s = s
 next_sound i (drive lines channels) x h t s = s
+next_sound i (heartbeat node) x h t s = s
+next_sound i (pass t) x h u s = s
 
 step_sound : (i : ℕ) (c : Plain) (x : Machine mapping) → SoundMapping i x.own → SoundMapping i (step mapping i c x).own
 unfolding step hear
@@ -168,7 +171,7 @@ pub record Receivable (e : Entry) (h : Home) : Type 0 where
   pub lowest_is : e.lowest ≡ 0
   pub highest_is : e.highest ≡ any
   pub short_is : e.short ≡ false
-  pub unheld : (o : Mapping) (v : ℕ) → at_mapping [] (λ m sub. mapping_checks o m sub v) h ≡ []
+  pub unheld : (o : Holdings) (v : ℕ) → held_checks o h v ≡ []
   pub quiet : writes_setting h ≡ false
 
 module _ (m : ℕ) (r : receives m ≡ true) (e : Entry) where
@@ -204,6 +207,7 @@ module _ (m : ℕ) (r : receives m ≡ true) (e : Entry) where
   receivable Sources i p = absurd (false≢true p)
   receivable (Device index) i p = absurd (false≢true p)
   receivable (MappingEntry j sub) i p = absurd (false≢true p)
+  receivable (WatchEntry n) i p = absurd (false≢true p)
 
 pub moving_receivable : (m v : ℕ) → receives m ≡ true → moves m v ≡ true → Receivable (mapped_entry v) (mapped_entry v).home
 moving_receivable m v r h =

@@ -79,7 +79,7 @@ entry_taken has e payload r running z p =
       le-ltb v 0 (omega arith),
       le-ltb any v most,
       r.short_is,
-      r.unheld has.mapping v,
+      r.unheld has.held v,
     )
 
 -- ---- each write of a frame

@@ -11,10 +11,11 @@ use borrow.Author.Tests.{le-ltb}
 use Rattle.profile.specs.Bytes.{little_endian}
 use Rattle.profile.specs.Entries.{entry_of}
 use Rattle.profile.specs.Calls.{read, write}
-use Rattle.profile.specs.Refusals.{Conditions, Check, first, entry_checks, access_checks, value_checks, mapping_checks, held_checks}
+use Rattle.profile.specs.Refusals.{Conditions, Check, first, entry_checks, access_checks, value_checks, mapping_checks, watch_checks}
+use Rattle.profile.specs.Refusals.{held_checks}
 use Rattle.profile.specs.Refusals.{read_refusal, write_refusal, refusal}
 use Rattle.profile.proofs.BoolLaws.{picked}
-use Rattle.profile.proofs.HomeLaws.{mapping_holds}
+use Rattle.profile.proofs.HomeLaws.{mapping_holds, watch_holds}
 use Rattle.profile.proofs.SizeLaws.{absence, entry_sized}
 
 -- ---- the first of the checks that holds
@@ -42,6 +43,7 @@ pub record Rows (P : ℕ → Type 0) (stopped : Bool) (size lent : ℕ) : Type 0
   pub count_not_0 : P 0x06010000
   pub not_mappable : P 0x06040041
   pub mapping_too_long : P 0x06040042
+  pub node_twice : P 0x06040043
 
 module _ (P : ℕ → Type 0) (has : Conditions) (index sub : ℕ) where
   absent_number : {lent : ℕ} → Rows P has.stopped (entry_of index sub).size lent → P (entry_of index sub).absent
@@ -55,15 +57,16 @@ module _ (P : ℕ → Type 0) (has : Conditions) (index sub : ℕ) where
 
   pub write_number : (payload : List ℕ) → Rows P has.stopped (entry_of index sub).size (length payload)
       → P (refusal has (write index sub payload))
-  unfolding refusal write_refusal mapping_checks
+  unfolding refusal write_refusal mapping_checks watch_checks
   write_number payload r =
       let e = entry_of index sub in
       let v = little_endian payload in
-      let held = mapping_holds (Each P) (λ m sub. mapping_checks has.mapping m sub v) [] tt
+      let watched = watch_holds (Each P) (λ n. watch_checks has.held.watches n v) [] tt (λ n. (λ h. r.node_twice, tt)) e.home in
+      let held = mapping_holds (Each P) (λ m sub. mapping_checks has.held.mapping m sub v) _ watched
       (λ m sub. (λ h. r.count_not_0, (λ h. r.not_mappable, (λ h. r.mapping_too_long, tt)))) e.home in
-      let values : Each P (value_checks e v ++ held_checks has.mapping e v) =
+      let values : Each P (value_checks e v ++ held_checks has.held e.home v) =
       (λ h. r.value, (λ h. r.too_high, (λ h. r.too_low, held))) in
-      first_holds P r.accepted (access_checks has.stopped e (length payload) ++ (value_checks e v ++ held_checks has.mapping e v)) (
+      first_holds P r.accepted (access_checks has.stopped e (length payload) ++ (value_checks e v ++ held_checks has.held e.home v)) (
         r.while_stopped,
         (
           λ h. absent_number r,
@@ -92,6 +95,7 @@ codes stopped size lent =
       count_not_0 = omega arith;
       not_mappable = omega arith;
       mapping_too_long = omega arith;
+      node_twice = omega arith;
     }
 
 pub read_code : (has : Conditions) (index sub : ℕ) → refusal has (read index sub) < 256 ^ 4
@@ -132,4 +136,5 @@ module _ (stopped : Bool) (size lent : ℕ) where
         count_not_0 = other _ (λ h e. omega (arith, e)) (λ h e. omega (arith, e)) (λ h e. omega (arith, e));
         not_mappable = other _ (λ h e. omega (arith, e)) (λ h e. omega (arith, e)) (λ h e. omega (arith, e));
         mapping_too_long = other _ (λ h e. omega (arith, e)) (λ h e. omega (arith, e)) (λ h e. omega (arith, e));
+        node_twice = other _ (λ h e. omega (arith, e)) (λ h e. omega (arith, e)) (λ h e. omega (arith, e));
       }

@@ -14,7 +14,7 @@ use Rattle.profile.specs.declared.AnalogueInput.{AnalogueInput}
 use Rattle.profile.specs.declared.AnalogueOutput.{AnalogueOutput}
 use Rattle.profile.specs.Entries.{Entry}
 use Rattle.profile.specs.declared.Home.{Home}
-use Rattle.profile.specs.declared.Home.TheVariants.{Constant, Window, InputChannel, OutputChannel, Sources, Device, MappingEntry}
+use Rattle.profile.specs.declared.Home.TheVariants.{Constant, Window, InputChannel, OutputChannel, Sources, Device, MappingEntry, WatchEntry}
 use Rattle.profile.specs.Bits.{bit}
 use Rattle.profile.specs.Nodes.{stopped}
 use Rattle.profile.specs.Entries.{entry_of, home_of, first_line}
@@ -22,9 +22,10 @@ use Rattle.profile.specs.NodeAlone.{read_node}
 use Rattle.profile.specs.AnalogueInput.{input_size, read_analogue_input}
 use Rattle.profile.specs.AnalogueOutput.{output_size, read_analogue_output}
 use Rattle.profile.specs.Mapping.{read_mapping}
+use Rattle.profile.specs.WatchEntries.{watch_at}
 use Rattle.profile.specs.Calls.{read, direct}
 use Rattle.profile.specs.Refusals.{first, entry_checks, read_refusal, refusal}
-use Rattle.profile.specs.Machines.{node_alone, analogue_input, analogue_output, mapping}
+use Rattle.profile.specs.Machines.{node_alone, analogue_input, analogue_output, mapping, watch}
 use Rattle.profile.specs.Heard.{Machines, number_of}
 use Rattle.profile.specs.ServerClaims.{ReadsFit}
 use Rattle.profile.specs.Replies.{row_bit, read_value, read_reply, answer, answer_to, reply}
@@ -71,6 +72,7 @@ pub record Held (ms : Machines) : Type 0 where
   pub inputs : (n : ℕ) → HeldInput (ms analogue_input n).own
   pub outputs : (n : ℕ) → HeldOutput (ms analogue_output n).own
   pub mappings : (m sub : ℕ) → m < 8 → sub ≤ 8 → read_mapping sub (ms mapping m).own < 256 ^ mapping_size sub
+  pub watches : (n : ℕ) → n < 4 → (watch_at (ms watch 0).own n).value < 256 ^ 4
 
 input_fits : (o : AnalogueInput) (index : ℕ) → HeldInput o → read_analogue_input index o < 256 ^ input_size index
 unfolding read_analogue_input
@@ -110,6 +112,7 @@ module _ (ms : Machines) (held : Held ms) where
   value_fits e Sources r f = rw (eqb-true e.size 4 f) (omega (arith, gather_small 16 (λ n. (ms analogue_input n).own.source)))
   value_fits e (Device index) r f = rw r (node_fits (ms node_alone 0).node index held.node)
   value_fits e (MappingEntry m sub) r f = rw r.2 (held.mappings m sub r.0 r.1)
+  value_fits e (WatchEntry n) r f = rw r.1 (held.watches n r.0)
 
 -- ---- the reply
 

@@ -9,8 +9,8 @@ use Rattle.profile.specs.declared.AnalogueInput.{AnalogueInput}
 use Rattle.profile.specs.Bits.{bit_at}
 use Rattle.profile.specs.Nodes.{operational}
 use Rattle.profile.specs.Entries.{at_input_channel}
-use Rattle.profile.specs.MappedEntries.{empty_mapping}
 use Rattle.profile.specs.Calls.{on_sample}
+use Rattle.profile.specs.Refusals.{nothing_held}
 use Rattle.profile.specs.Rules.{Rules, put}
 
 abbrev pub eq_z : ℤ → ℤ → Bool
@@ -123,5 +123,5 @@ analogue_inputs =
       cleared = clear_source;
       emptied = λ o. o;
       moved = λ before after o. o;
-      holds = λ o. empty_mapping;
+      holds = λ o. nothing_held;
     }

@@ -7,7 +7,7 @@ use Rattle.profile.specs.declared.AnalogueOutput.{AnalogueOutput}
 use Rattle.profile.specs.Bits.{bit}
 use Rattle.profile.specs.Nodes.{fault}
 use Rattle.profile.specs.Entries.{at_output_channel}
-use Rattle.profile.specs.MappedEntries.{empty_mapping}
+use Rattle.profile.specs.Refusals.{nothing_held}
 use Rattle.profile.specs.Rules.{Rules, put}
 use Rattle.profile.specs.Outputs.{following, fault_moves}
 
@@ -54,5 +54,5 @@ analogue_outputs =
       cleared = λ o. o;
       emptied = λ o. o;
       moved = move_analogue_output;
-      holds = λ o. empty_mapping;
+      holds = λ o. nothing_held;
     }

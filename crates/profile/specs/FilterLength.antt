@@ -7,16 +7,16 @@ use Rattle.profile.specs.declared.Node.{Node}
 use Rattle.profile.specs.Bits.{flip, gather}
 use Rattle.profile.specs.Bytes.{little_endian, bytes, line_bit}
 use Rattle.profile.specs.Nodes.{operational, with_settings}
-use Rattle.profile.specs.Calls.{Plain, read, write, sample, command, raise, clear, drive, on_sample}
-use Rattle.profile.specs.Calls.{Call, direct, receive, transmit, request, Reply}
+use Rattle.profile.specs.Calls.{Plain, read, write, sample, command, raise, clear, drive, heartbeat, pass, on_sample}
+use Rattle.profile.specs.Calls.{Call, direct, receive, transmit, request, elapsed, Reply}
 use Rattle.profile.specs.Refusals.{accepted}
 use Rattle.profile.specs.Server.{asked}
 use Rattle.profile.specs.InputLine.{InputLine, settle, reads, line_event}
-use Rattle.profile.specs.Machines.{Kind, node_alone, input_line, output_line, analogue_input, analogue_output, mapping, Machine}
+use Rattle.profile.specs.Machines.{Kind, node_alone, input_line, output_line, analogue_input, analogue_output, mapping, watch, Machine}
 use Rattle.profile.specs.Machines.{known, step}
 use Rattle.profile.specs.Heard.{Machines, fresh_machines, fold, heard_as, number_of}
 use Rattle.profile.specs.Replies.{sample_reply, channel_events, refuse_to, reply}
-use Rattle.profile.specs.Lists.{after}
+use Rattle.profile.specs.Lists.{each, after}
 
 -- ---- document 01's rule, as it was
 
@@ -50,6 +50,7 @@ step01 output_line i c m = step output_line i c m
 step01 analogue_input i c m = step analogue_input i c m
 step01 analogue_output i c m = step analogue_output i c m
 step01 mapping i c m = step mapping i c m
+step01 watch i c m = step watch i c m
 
 -- the machines after a list, and what they answer
 abbrev pub after01 : Machines → List Call → Machines
@@ -68,6 +69,7 @@ reply01 ms (direct c) =
 reply01 ms (receive message frame) = reply ms (receive message frame)
 reply01 ms (transmit message frame) = reply ms (transmit message frame)
 reply01 ms (request frame r) = reply ms (request frame r)
+reply01 ms (elapsed t) = reply ms (elapsed t)
 
 -- ---- with the length left at 3 every answer to every list is what it was
 
@@ -80,10 +82,8 @@ on_plain f g (command code to) = true
 on_plain f g (raise cause) = true
 on_plain f g (clear cause) = true
 on_plain f g (drive lines channels) = true
-
-abbrev pub each : (Plain → Bool) → List Plain → Bool
-each p [] = true
-each p (c ∷ cs) = p c && each p cs
+on_plain f g (heartbeat node) = true
+on_plain f g (pass t) = true
 
 -- f at the index of a read, g at the index and the data of a write, true at any other call; at a request by the plain call that it is
 abbrev pub on_access : (ℕ → Bool) → (ℕ → List ℕ → Bool) → Call → Bool
@@ -94,9 +94,12 @@ on_access f g (direct (command code to)) = true
 on_access f g (direct (raise cause)) = true
 on_access f g (direct (clear cause)) = true
 on_access f g (direct (drive lines channels)) = true
+on_access f g (direct (heartbeat node)) = true
+on_access f g (direct (pass t)) = true
 on_access f g (receive message frame) = true
 on_access f g (transmit message frame) = true
 on_access f g (request frame r) = each (on_plain f g) (asked frame)
+on_access f g (elapsed t) = true
 
 -- a call that leaves the length at 3: it writes nothing but 3 to 2003
 abbrev pub leaves_three : Call → Bool
@@ -105,10 +108,6 @@ leaves_three c = on_access (λ index. true) (λ index payload. not (eqb index 0x
 -- a call that does not name 2003, which no device had
 abbrev pub without2003 : Call → Bool
 without2003 c = on_access (λ index. not (eqb index 0x2003)) (λ index payload. not (eqb index 0x2003)) c
-
-abbrev pub every : (Call → Bool) → List Call → Bool
-every p [] = true
-every p (c ∷ cs) = p c && every p cs
 
 pub record AsBefore (number : ℕ) (cs : List Call) : Type 0 where
   pub machines : (k : Kind) (i : ℕ) → after number cs k i ≡ after01 (fresh_machines number) cs k i

@@ -2,14 +2,17 @@
 -- Assumes nothing.
 use Rattle.std.specs.Prelude.{Bool, not, cond, ◌&&◌, List, [], ◌∷◌, ◌++◌, ℕ, eqb, leb, length, take, drop}
 use Rattle.profile.specs.declared.Node.{Node}
+use Rattle.profile.specs.declared.Cause.TheVariants.{Lost}
 use Rattle.profile.specs.Nodes.{stopped, operational}
 use Rattle.profile.specs.Entries.{home_of, at_mapping}
 use Rattle.profile.specs.MappedEntries.{listed, received, index_of, sub_of, moves, moved, total}
-use Rattle.profile.specs.Calls.{Plain, read, write, sample, command, raise, clear, drive}
-use Rattle.profile.specs.Calls.{Call, direct, receive, transmit, request}
+use Rattle.profile.specs.WatchEntries.{Watch}
+use Rattle.profile.specs.Calls.{Plain, read, write, sample, command, raise, clear, drive, heartbeat, pass}
+use Rattle.profile.specs.Calls.{Call, direct, receive, transmit, request, elapsed}
 use Rattle.profile.specs.Refusals.{Conditions, refusal, transmit_refusal, request_refusal}
 use Rattle.profile.specs.Server.{asked}
-use Rattle.profile.specs.Machines.{Kind, node_alone, mapping, Machine, fresh_machine, step}
+use Rattle.profile.specs.Watch.{is_due}
+use Rattle.profile.specs.Machines.{Kind, node_alone, mapping, watch, Machine, fresh_machine, step}
 
 -- all machines; of each kind k only the first `count k` are the device's
 abbrev pub Machines : Type 0
@@ -39,15 +42,22 @@ mapping_named (command code to) = 0
 mapping_named (raise cause) = 0
 mapping_named (clear cause) = 0
 mapping_named (drive lines channels) = 0
+mapping_named (heartbeat node) = 0
+mapping_named (pass t) = 0
 
 abbrev pub conditions : Machines → Plain → Conditions
-conditions ms c = record { stopped = stopped (ms node_alone 0).node; mapping = (ms mapping (mapping_named c)).own }
+conditions ms c =
+    record {
+      stopped = stopped (ms node_alone 0).node;
+      held = record { mapping = (ms mapping (mapping_named c)).own; watches = (ms watch 0).own };
+    }
 
 unfoldable pub number_of : Machines → Call → ℕ
 number_of ms (direct c) = refusal (conditions ms c) c
 number_of ms (receive message frame) = 0
 number_of ms (transmit message frame) = transmit_refusal (length frame)
 number_of ms (request frame reply) = request_refusal (length frame) (length reply)
+number_of ms (elapsed t) = 0
 
 -- ---- what the machines hear
 
@@ -72,12 +82,18 @@ receive_writes ms m frame =
 abbrev pub served : Node → List ℕ → List ℕ → Bool
 served n frame reply = eqb (request_refusal (length frame) (length reply)) 0 && not (stopped n)
 
+-- "An entry whose sum reaches or passes its time raises communication loss in that very call"; "The machines hear an expiry as a raise, due
+-- when the list's own calls make it so by these rules."
+abbrev pub time_passes : ℕ → List Watch → List Plain
+time_passes t ws = pass t ∷ cond (is_due t ws) (raise Lost ∷ []) []
+
 -- a transmit is heard by no machine
 abbrev pub heard_as : Machines → Call → List Plain
 heard_as ms (direct c) = c ∷ []
 heard_as ms (receive message frame) = receive_writes ms (received message) frame
 heard_as ms (transmit message frame) = []
 heard_as ms (request frame reply) = cond (served (ms node_alone 0).node frame reply) (asked frame) []
+heard_as ms (elapsed t) = time_passes t (ms watch 0).own
 
 abbrev pub step_all : Call → Machines → Machines
 step_all c ms = step_each (heard_as ms c) ms

@@ -7,8 +7,8 @@ use Rattle.profile.specs.Bits.{bit_at, flip}
 use Rattle.profile.specs.Bytes.{line_bit}
 use Rattle.profile.specs.Nodes.{operational}
 use Rattle.profile.specs.Entries.{inside, bit_of, at_window}
-use Rattle.profile.specs.MappedEntries.{empty_mapping}
 use Rattle.profile.specs.Calls.{on_sample}
+use Rattle.profile.specs.Refusals.{nothing_held}
 use Rattle.profile.specs.Rules.{Rules, put}
 
 -- f is `settled`, c is `count`
@@ -103,5 +103,5 @@ input_lines =
       cleared = λ o. o;
       emptied = λ o. o;
       moved = λ before after o. o;
-      holds = λ o. empty_mapping;
+      holds = λ o. nothing_held;
     }

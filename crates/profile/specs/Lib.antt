@@ -6,6 +6,7 @@ pub mod Nodes
 pub mod Entries
 pub mod Shifts
 pub mod MappedEntries
+pub mod WatchEntries
 pub mod Calls
 pub mod Numbers
 pub mod Refusals
@@ -19,6 +20,7 @@ pub mod OutputLine
 pub mod AnalogueInput
 pub mod AnalogueOutput
 pub mod Mapping
+pub mod Watch
 pub mod Machines
 pub mod Heard
 pub mod Replies
@@ -28,3 +30,4 @@ pub mod Lists
 pub mod Bench
 pub mod FilterLength
 pub mod ServerClaims
+pub mod WatchClaims

@@ -3,6 +3,7 @@
 use Rattle.std.specs.Prelude.{false, cond, ℕ, ◌-◌, eqb, get_or, set}
 use Rattle.profile.specs.Entries.{at_mapping}
 use Rattle.profile.specs.MappedEntries.{Mapping, empty_mapping}
+use Rattle.profile.specs.WatchEntries.{empty_watches}
 use Rattle.profile.specs.Rules.{Rules}
 
 unfoldable pub read_mapping : ℕ → Mapping → ℕ
@@ -30,5 +31,5 @@ mappings =
       cleared = λ o. o;
       emptied = λ o. empty_mapping;
       moved = λ before after o. o;
-      holds = λ o. o;
+      holds = λ o. record { mapping = o; watches = empty_watches };
     }

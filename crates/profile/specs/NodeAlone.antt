@@ -7,8 +7,8 @@ use Rattle.profile.specs.Bits.{bit}
 use Rattle.profile.specs.Bytes.{little_endian}
 use Rattle.profile.specs.Nodes.{with_settings, raise_node, clear_node, command_node}
 use Rattle.profile.specs.Entries.{home_of, at_device, reads_sources}
-use Rattle.profile.specs.MappedEntries.{empty_mapping}
-use Rattle.profile.specs.Calls.{Plain, read, write, sample, command, raise, clear, drive}
+use Rattle.profile.specs.Calls.{Plain, read, write, sample, command, raise, clear, drive, heartbeat, pass}
+use Rattle.profile.specs.Refusals.{nothing_held}
 use Rattle.profile.specs.Rules.{Rules, put}
 
 -- "Device-wide for the machines are commands, causes, writes of 1029:1, 6005 and 6423, and reads of 6422:1"; document 02, Item 2: "Writing
@@ -24,6 +24,8 @@ device_wide (command code to) = true
 device_wide (raise cause) = true
 device_wide (clear cause) = true
 device_wide (drive lines channels) = false
+device_wide (heartbeat node) = false
+device_wide (pass t) = false
 
 -- what an accepted call makes of the node
 abbrev pub write_node : Home → ℕ → Node → Node
@@ -40,6 +42,8 @@ next_node (command code to) n = command_node code to n
 next_node (raise cause) n = raise_node cause n
 next_node (clear cause) n = clear_node cause n
 next_node (drive lines channels) n = n
+next_node (heartbeat node) n = n
+next_node (pass t) n = n
 
 -- "1001:0 error register: bit 0 for any cause, also bit 4 for communication loss"; 1029:1, 2003:0, 6005 and 6423
 unfoldable pub read_node : ℕ → Node → ℕ
@@ -63,5 +67,5 @@ nodes_alone =
       cleared = λ o. o;
       emptied = λ o. o;
       moved = λ before after o. o;
-      holds = λ o. empty_mapping;
+      holds = λ o. nothing_held;
     }

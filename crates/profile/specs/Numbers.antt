@@ -2,7 +2,7 @@
 -- Assumes nothing.
 use Rattle.std.specs.Prelude.{ℕ, Result, Ok, Err}
 use Rattle.profile.specs.declared.refusals.Refusal.{Refusal}
-use Rattle.profile.specs.declared.refusals.Refusal.TheVariants.{NodeNumber, CommandCode, DigitalLength, AnalogueLength, FilledLength, DriveLength, RequestLength, Stopped, NoObject, NoSubIndex, ReadOnly, TooLong, TooShort, NotAllowed, TooHigh, TooLow, CountNotZero, NotMappable, MappingTooLong}
+use Rattle.profile.specs.declared.refusals.Refusal.TheVariants.{NodeNumber, CommandCode, DigitalLength, AnalogueLength, FilledLength, DriveLength, RequestLength, Stopped, NoObject, NoSubIndex, ReadOnly, TooLong, TooShort, NotAllowed, TooHigh, TooLow, CountNotZero, NotMappable, MappingTooLong, NodeTwice}
 
 abbrev pub refusal_number : Refusal → ℕ
 refusal_number NodeNumber = 1
@@ -24,6 +24,7 @@ refusal_number TooLow = 0x06090032
 refusal_number CountNotZero = 0x06010000
 refusal_number NotMappable = 0x06040041
 refusal_number MappingTooLong = 0x06040042
+refusal_number NodeTwice = 0x06040043
 
 -- "An accepted call answers number 0."
 abbrev pub number_answered : {A : Type 0} → Result A Refusal → ℕ

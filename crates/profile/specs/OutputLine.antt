@@ -4,7 +4,7 @@ use Rattle.std.specs.Prelude.{Bool, true, false, cond, ◌&&◌, [], ◌∷◌, 
 use Rattle.profile.specs.Bits.{bit_at, flip}
 use Rattle.profile.specs.Nodes.{fault}
 use Rattle.profile.specs.Entries.{inside, bit_of, at_window}
-use Rattle.profile.specs.MappedEntries.{empty_mapping}
+use Rattle.profile.specs.Refusals.{nothing_held}
 use Rattle.profile.specs.Rules.{Rules, put}
 use Rattle.profile.specs.Outputs.{following, fault_moves}
 
@@ -90,5 +90,5 @@ output_lines =
       cleared = λ o. o;
       emptied = λ o. o;
       moved = move_output_line;
-      holds = λ o. empty_mapping;
+      holds = λ o. nothing_held;
     }

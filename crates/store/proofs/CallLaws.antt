@@ -1,8 +1,8 @@
 -- The promise of a call, from what its code knows at each return.
 -- Assumes nothing.
-use mathlib.Core.Path.{◌≡◌, refl, sym, ap, ◌∙◌}
-use mathlib.Core.Bool.{Bool, true, false, not}
-use mathlib.Core.List.{List}
+use mathlib.Core.Path.{◌≡◌, refl, sym, ap, ◌∙◌, subst}
+use mathlib.Core.Bool.{Bool, true, false, not, cond}
+use mathlib.Core.List.{List, [], ◌∷◌, map}
 use Prim.Native.Nat.{ℕ}
 use native.Mathlib.Omega.{arith}
 use lib.Dec.{eqb}
@@ -20,21 +20,26 @@ use Rattle.profile.specs.Numbers.{refusal_number}
 use Rattle.profile.specs.Answers.{plain_answer, sample_answer, drive_answer}
 use Rattle.profile.specs.Commands.{command_code}
 use Rattle.profile.specs.Nodes.{addressed, obey_node, raise_node, clear_node}
-use Rattle.profile.specs.Calls.{Plain, sample, command, raise, clear, drive, direct}
+use Rattle.profile.specs.Calls.{Plain, sample, command, raise, clear, drive, direct, heartbeat, pass, elapsed}
 use Rattle.profile.specs.Refusals.{refusal, command_refusal, sample_refusal, drive_refusal}
-use Rattle.profile.specs.Heard.{conditions}
-use Rattle.profile.specs.Replies.{plain, sample_reply, drive_reply, refuse}
+use Rattle.profile.specs.Heard.{conditions, step_each, step_all, number_of}
+use Rattle.profile.specs.Replies.{plain, sample_reply, drive_reply, refuse, answer_to, reply}
+use Rattle.profile.specs.declared.Cause.TheVariants.{Lost}
+use Rattle.profile.specs.Watch.{take_heartbeat, take_time, is_due}
+use Rattle.profile.specs.Outcome.{Same}
 use Rattle.dictionary.specs.Commanded.{Commanded}
 use Rattle.lines.specs.Promises as line
 use Rattle.channels.specs.View.{driven_of, Zeroed}
 use Rattle.analogue_outputs.specs.Promises as output
+use Rattle.watches.specs.View.{watches_of, WatchesLeft}
 use Rattle.store.specs.declared.Store.{Store}
 use Rattle.store.specs.View.{node_at, parts_of, machines_of}
 use Rattle.store.specs.Promises.{Ensured, Stepped, FreshLeft, Entered, moved}
 use Rattle.store.proofs.KeepLaws.{left_alone, taken, same_state}
-use Rattle.store.proofs.StepLaws.{entered, entered_reset}
-use Rattle.store.proofs.OutcomeLaws.{refused_outcome, Sampling, sample_outcome, drive_outcome}
+use Rattle.store.proofs.StepLaws.{entered, entered_reset, watch_left}
+use Rattle.store.proofs.OutcomeLaws.{refused_outcome, Sampling, sample_outcome, drive_outcome, heartbeat_outcome, passed_machines}
 use Rattle.store.proofs.OutcomeLaws.{raise_outcome, clear_outcome, obeyed_outcome, reset_outcome, other_outcome}
+use Rattle.profile.proofs.ListTheorem.{same_trans, step_same}
 
 -- ---- refused
 
@@ -95,6 +100,47 @@ module _ (d e : Store) (cause : Cause) where
   cleared en =
       let s = entered d en in taken d e _ _ refl refl s.normal (clear_outcome (parts_of d) (parts_of e) _ s.machines)
 
+-- ---- heartbeats, and time that passes
+
+module _ (d : Store) (deltas : List ℕ) where
+  abbrev later : Store
+  later = record d { deltas = deltas }
+
+  pub heard_heartbeat : {node : ℕ} → WatchesLeft (map (take_heartbeat node) (watches_of d.deltas)) d.deltas deltas
+      → Ensured d (direct (heartbeat node)) (plain 0) later
+  heard_heartbeat s =
+      let w = watch_left d deltas _ s in
+      taken d later _ _ refl refl w.normal (heartbeat_outcome (parts_of d) (parts_of later) _ w.machines)
+
+  module _ (t : ℕ) (s : WatchesLeft (map (take_time t) (watches_of d.deltas)) d.deltas deltas) where
+    time_machines : Same (machines_of later) (step_each (pass t ∷ []) (machines_of d))
+    time_machines = passed_machines (parts_of d) (parts_of later) t (watch_left d deltas _ s).machines
+
+    -- what the machines hear, by whether an entry is due
+    heard_by : (b : Bool) → is_due t (watches_of d.deltas) ≡ b
+        → step_each (pass t ∷ cond b (raise Lost ∷ []) []) (machines_of d) ≡ step_all (elapsed t) (machines_of d)
+    heard_by b e = ap (λ (x : Bool). step_each (pass t ∷ cond x (raise Lost ∷ []) []) (machines_of d)) (sym e)
+
+    -- no entry reaches its time
+    pub not_due : is_due t (watches_of d.deltas) ≡ false → Ensured d (elapsed t) (plain 0) later
+    unfolding reply number_of answer_to
+    not_due e =
+        taken d later _ _ refl refl (watch_left d deltas _ s).normal
+        (record { machines = subst (Same (machines_of later)) (heard_by false e) time_machines; replied = refl })
+
+    -- "raises communication loss in that very call"
+    pub due : {e : Store} → is_due t (watches_of d.deltas) ≡ true → Ensured later (direct (raise Lost)) (plain 0) e
+        → Ensured d (elapsed t) (plain 0) e
+    unfolding reply number_of answer_to
+    due {e} h r =
+        taken d e _ _ refl refl (λ n. r.normal ((watch_left d deltas _ s).normal n))
+        (record {
+          machines =
+              subst (Same (machines_of e)) (heard_by true h)
+              (same_trans r.outcome.machines (step_same (direct (raise Lost)) time_machines));
+          replied = refl;
+        })
+
 -- ---- command
 
 other_code : (k : Command) → (k ≡ ResetNode → ⊥) → command_code k ≡ 129 → ⊥
@@ -132,7 +178,7 @@ module _ (d : Store) (code to : ℕ) where
         obeyed e r s en = obeyed_by e false (rw c.named at (other_code k r)) (rw c.named at (no_reset k s)) (entered d en)
 
         pub obeyed_reset : (e : Store) {between deltas : List ℕ} → k ≡ ResetCommunication → Zeroed 48 84 d.deltas between
-            → Entered n (record d { deltas = between }) e → Zeroed 84 120 e.deltas deltas
+            → Entered n (record d { deltas = between }) e → Zeroed 84 128 e.deltas deltas
             → Ensured d (direct (command code to)) (plain 0) (record e { deltas = deltas })
         obeyed_reset e {between} {deltas} q z en y =
             let is : code ≡ 130 = sym c.named ∙ ap command_code q in

@@ -13,7 +13,7 @@ use lib.Pow.{pow_mono, pow-add}
 use borrow.Author.Tests.{eqb-true, ltb-false}
 use Rattle.profile.specs.Entries.{Entry}
 use Rattle.profile.specs.declared.Home.{Home}
-use Rattle.profile.specs.declared.Home.TheVariants.{Constant, Window, InputChannel, OutputChannel, Sources, Device, MappingEntry}
+use Rattle.profile.specs.declared.Home.TheVariants.{Constant, Window, InputChannel, OutputChannel, Sources, Device, MappingEntry, WatchEntry}
 use Rattle.profile.specs.Entries.{entry_of, home_of, any, not_allowed}
 use Rattle.profile.specs.Refusals.{Check, first, access_checks, value_checks}
 use Rattle.profile.proofs.EntryRanges.{WindowRange, InRange, in_range}
@@ -88,6 +88,7 @@ writable e (OutputChannel index m) v r n a p = (r.0, output_writable n index e (
 writable e Sources v r n a p = absurd (true≢false (sym r ∙ a.writable))
 writable e (Device index) v r n a p = rw (a.size_is ∙ r) at n.small
 writable e (MappingEntry m sub) v r n a p = (r.0, r.1)
+writable e (WatchEntry m) v r n a p = r.0
 
 -- from the sums of the two parts of the table, which the code has made
 module _ (stopped : Bool) (index sub : ℕ) (bytes : List ℕ)

@@ -66,13 +66,13 @@ outputs_kept flags flags' values values' f v i h =
       driven = v (48 + i) (omega arith) t;
     }
 
-pub mappings_kept : (deltas deltas' : List ℕ) → ((k : ℕ) → 48 ≤ k → get_or deltas' k 0 ≡ get_or deltas k 0) → (i : ℕ) → i < 8
-    → mapping_at deltas' i ≡ mapping_at deltas i
+pub mappings_kept : (deltas deltas' : List ℕ) → ((k : ℕ) → 48 ≤ k → k < 120 → get_or deltas' k 0 ≡ get_or deltas k 0) → (i : ℕ)
+    → i < 8 → mapping_at deltas' i ≡ mapping_at deltas i
 mappings_kept deltas deltas' d i h =
     λ t. record {
-      count = d (place_of i 0) (omega arith) t;
+      count = d (place_of i 0) (omega arith) (omega arith) t;
       entries = list_from_cong 8 0 (λ j. get_or deltas' (place_of i (1 + j)) 0) (λ j. get_or deltas (place_of i (1 + j)) 0)
-          (λ j l. d (place_of i (1 + j)) (omega arith)) t;
+          (λ j l. d (place_of i (1 + j)) (omega arith) (omega arith)) t;
     }
 
 -- ---- the node stored

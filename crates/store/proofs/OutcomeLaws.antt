@@ -2,7 +2,7 @@
 -- Assumes nothing.
 use mathlib.Core.Path.{◌≡◌, refl, ap, ap₂, ◌∙◌, sym}
 use mathlib.Core.Bool.{Bool, true, false, cond, ◌&&◌}
-use mathlib.Core.List.{List, [], ◌++◌}
+use mathlib.Core.List.{List, [], ◌++◌, ◌∷◌, map}
 use Prim.Native.Nat.{ℕ, ◌<◌, ◌≤◌}
 use native.Mathlib.Omega.{arith}
 use lib.Dec.{eqb}
@@ -27,24 +27,28 @@ use Rattle.analogue_outputs.specs.Promises as output
 use Rattle.profile.specs.Nodes.{stopped, operational, fault, raise_node, clear_node, addressed, obey_node, command_node}
 use Rattle.profile.specs.Entries.{entry_of, home_of, at_mapping}
 use Rattle.profile.specs.Calls.{Plain, read, write, sample, command, raise, clear, drive, direct, Reply}
-use Rattle.profile.specs.Refusals.{Check, first, entry_checks, access_checks, value_checks, mapping_checks, read_refusal, write_refusal}
+use Rattle.profile.specs.Calls.{heartbeat, pass, on_sample, on_watched}
+use Rattle.profile.specs.Refusals.{Check, first, entry_checks, access_checks, value_checks, held_checks, read_refusal, write_refusal}
 use Rattle.profile.specs.Refusals.{refusal, accepted}
-use Rattle.profile.specs.Machines.{Kind, node_alone, input_line, output_line, analogue_input, analogue_output, mapping, count, Own, move_own}
-use Rattle.profile.specs.Machines.{command_own, clear_own, hears, known}
+use Rattle.profile.specs.Machines.{Kind, node_alone, input_line, output_line, analogue_input, analogue_output, mapping, watch, count, Own}
+use Rattle.profile.specs.Machines.{move_own, command_own, clear_own, hears, known, Machine, rules_of, step}
 use Rattle.profile.specs.Entries.{reads_sources}
-use Rattle.profile.specs.Heard.{fresh_machines, conditions, number_of, step_all}
+use Rattle.profile.specs.Heard.{fresh_machines, conditions, number_of, step_all, Machines, step_each}
 use Rattle.profile.specs.Replies.{read_value, plain, read_reply, sample_reply, drive_reply, line_events, answer, answer_to, refuse, refuse_to}
 use Rattle.profile.specs.Replies.{reply}
 use Rattle.profile.specs.Outcome.{Same, Outcome}
+use Rattle.profile.specs.WatchEntries.{Watch}
+use Rattle.profile.specs.Watch.{take_heartbeat, take_time}
 use Rattle.profile.proofs.ListLaws.{bytes_cong}
 use Rattle.profile.proofs.NodesAgree.{known_of}
 use Rattle.profile.proofs.RefusalLaws.{none_holds, first_skip, first_stop, access_sound}
 use Rattle.profile.proofs.StepLaws.{Takes, refused_step, write_step, read_step, sample_step, command_step, raise_step, clear_step}
-use Rattle.profile.proofs.StepLaws.{drive_step}
+use Rattle.profile.proofs.StepLaws.{drive_step, made, heartbeat_step, pass_step}
+use Rattle.profile.proofs.ListTheorem.{same_trans}
 use Rattle.store.specs.declared.Store.{Store}
 use Rattle.store.specs.View.{Parts, own_of, machines, parts_of}
 use Rattle.store.specs.Promises.{moved, wrote, has_read, held_by}
-use Rattle.store.proofs.MachineLaws.{by_kind, same_machine, sources_read, OutputsKept, MappingsKept}
+use Rattle.store.proofs.MachineLaws.{by_kind, same_machine, sources_read, OutputsKept, MappingsKept, WatchKept}
 
 -- ---- refused and accepted calls
 
@@ -96,6 +100,46 @@ clear_outcome d r cause s =
     accepted_outcome d r (clear cause) (plain 0) refl
     (λ t. record { at = λ k i h. s.at k i h ∙ sym (clear_step k i cause (machines d k i)) }) refl
 
+-- ---- heartbeats, and time that passes
+
+-- a call that only the watch hears
+module _ (d : Parts) (c : Plain)
+    (steps : (k : Kind) (i : ℕ) (m : Machine k) → step k i c m
+    ≡ cond ((rules_of k).joins c i) (made k m.node ((rules_of k).joined c i m.node m.own)) m)
+    (unsampled : on_sample false (λ digital analogue. true) c ≡ false)
+    (watched : on_watched false (λ node. true) (λ t. true) c ≡ true) where
+  abbrev left : Parts
+  left = record d { watches = (rules_of watch).joined c 0 d.node d.watches }
+
+  unheard : (k : Kind) (i : ℕ) → (rules_of k).joins c i ≡ false → machines d k i ≡ step k i c (machines d k i)
+  unheard k i h =
+      let m = machines d k i in
+      sym (steps k i m ∙ ap (λ (b : Bool). cond b (made k m.node ((rules_of k).joined c i m.node m.own)) m) h)
+
+  pub watch_alone : Same (machines left) (step_all (direct c) (machines d))
+  watch_alone =
+      by_kind (machines left) (step_all (direct c) (machines d)) (unheard node_alone 0 refl)
+      (λ i h. unheard input_line i unsampled) (λ i h. unheard output_line i refl) (λ i h. unheard analogue_input i unsampled)
+      (λ i h. unheard analogue_output i refl) (λ i h. unheard mapping i refl)
+      (sym (steps watch 0 (machines d watch 0)
+      ∙ ap (λ (b : Bool). cond b (machines left watch 0) (machines d watch 0)) watched))
+
+-- with other entries of the watch
+abbrev pub rewatched : List Watch → Parts → Machines
+rewatched ws d = machines (record d { watches = ws })
+
+pub heartbeat_outcome : (d r : Parts) (node : ℕ) → Same (machines r) (rewatched (map (take_heartbeat node) d.watches) d)
+    → Outcome (machines d) (direct (heartbeat node)) (plain 0) (machines r)
+unfolding refusal answer
+heartbeat_outcome d r node s =
+    accepted_outcome d r (heartbeat node) (plain 0) refl
+    (λ t. same_trans s (watch_alone d (heartbeat node) (λ k i m. heartbeat_step k i node m) refl refl)) refl
+
+-- the machines after the time of an elapsed call, before any raise
+pub passed_machines : (d r : Parts) (t : ℕ) → Same (machines r) (rewatched (map (take_time t) d.watches) d)
+    → Same (machines r) (step_each (pass t ∷ []) (machines d))
+passed_machines d r t s = same_trans s (watch_alone d (pass t) (λ k i m. pass_step k i t m) refl refl)
+
 -- ---- reads and writes
 
 pub read_outcome : (d r : Parts) (index sub value size : ℕ) → first (entry_checks (stopped d.node) (entry_of index sub)) ≡ 0
@@ -109,18 +153,18 @@ read_outcome d r index sub value size e v z s =
 
 -- the source bits after an accepted read
 module _ (d r : Parts) (e : Home) (node : r.node ≡ d.node) (words : r.words ≡ d.words) (outputs : OutputsKept d r)
-    (mappings : MappingsKept d r) where
+    (mappings : MappingsKept d r) (watched : WatchKept d r) where
   pub read_cleared : reads_sources e ≡ true → (s : ℕ) → input.SourcesTaken d.inputs s r.inputs → Same (machines r) (has_read e d)
   read_cleared h s taken =
       record {
         at = λ k i l.
-            (sources_read d r s node words taken outputs mappings).at k i l
+            (sources_read d r s node words taken outputs mappings watched).at k i l
             ∙ ap (λ (b : Bool). record { node = d.node; own = cond b (clear_own k (own_of d k i)) (own_of d k i) }) (sym h);
       }
 
 -- the rows of the array and those of the conditions
 held_same : (d : Store) (e : Home) (v : ℕ) → held_by d.deltas e v
-    ≡ at_mapping [] (λ m sub. mapping_checks ((parts_of d).mappings (at_mapping 0 (λ j s. j) e)) m sub v) e
+    ≡ held_checks (record { mapping = (parts_of d).mappings (at_mapping 0 (λ j s. j) e); watches = (parts_of d).watches }) e v
 held_same d e v = grind arith
 
 -- the rows of a write before its value, and on its value
@@ -188,6 +232,7 @@ move_still b analogue_input o = refl
 move_still true analogue_output o = refl
 move_still false analogue_output o = refl
 move_still b mapping o = refl
+move_still b watch o = refl
 
 module _ (d r : Parts) (code to : ℕ) (taken : refusal (conditions (machines d) (command code to)) (command code to) ≡ 0) where
   commanded : ((k : Kind) (i : ℕ) → i < count k
@@ -223,6 +268,7 @@ pub record Sampling (d r : Parts) (digital : List ℕ) (analogue : List ℤ) (sh
   pub node : r.node ≡ d.node
   pub outputs : OutputsKept d r
   pub mappings : MappingsKept d r
+  pub watched : WatchKept d r
   pub row : Row
   pub edges : Row
   pub reported : Row
@@ -257,6 +303,7 @@ module _ {d r : Parts} {digital : List ℕ} {analogue : List ℤ} {shown : List 
       ∙ sym (sample_step analogue_output i digital analogue events (machines d analogue_output i) (t analogue_output i)))
       (λ i h. same_machine s.node (s.mappings i h)
       ∙ sym (sample_step mapping i digital analogue events (machines d mapping i) (t mapping i)))
+      (same_machine s.node s.watched ∙ sym (sample_step watch 0 digital analogue events (machines d watch 0) (t watch 0)))
 
   pub sample_outcome : (events : List ℕ) → refusal (conditions (machines d) (sample digital analogue events))
       (sample digital analogue events) ≡ 0

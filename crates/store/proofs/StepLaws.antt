@@ -9,7 +9,7 @@ use lib.ListN.{get_or, replicate}
 use lib.IntN.{ℤ, pos}
 use Rattle.profile.specs.declared.Node.{Node}
 use Rattle.profile.specs.declared.Home.{Home}
-use Rattle.profile.specs.declared.Home.TheVariants.{Constant, Window, InputChannel, OutputChannel, Sources, MappingEntry}
+use Rattle.profile.specs.declared.Home.TheVariants.{Constant, Window, InputChannel, OutputChannel, Sources, MappingEntry, WatchEntry}
 use Rattle.profile.specs.declared.Home.TheVariants as home
 use Rattle.profile.specs.Bits.{bit_at, gather}
 use Rattle.profile.specs.Nodes.{fault}
@@ -19,6 +19,8 @@ use Rattle.profile.specs.Entries.{reads_sources}
 use Rattle.profile.specs.NodeAlone.{write_node}
 use Rattle.profile.specs.Replies.{read_value}
 use Rattle.profile.specs.MappedEntries.{empty_mapping}
+use Rattle.profile.specs.WatchEntries.{Watch, empty_watches}
+use Rattle.profile.specs.Watch.{write_watch}
 use Rattle.lines.specs.Promises as line
 use Rattle.lines.proofs.ColumnLaws.{end, ◌▸◌, all_at}
 use Rattle.channels.specs.View.{input_at, output_at, sources_of}
@@ -32,10 +34,11 @@ use Rattle.store.specs.Promises.{FreshLeft, Stepped, Entered, moved, wrote, has_
 use Rattle.channels.specs.View.{Zeroed}
 use Rattle.channels.proofs.StoreLaws.{zeroed_both}
 use Rattle.mappings.proofs.ViewLaws.{emptied_all}
+use Rattle.watches.specs.View.{watches_of, WatchesLeft}
+use Rattle.watches.proofs.ViewLaws.{watches_emptied, watches_kept}
 use Rattle.store.proofs.MachineLaws.{fresh_machines_lem, node_moved, window_wrote, input_wrote, output_wrote, mapping_wrote}
-use Rattle.store.proofs.MachineLaws.{setting_wrote}
-use Rattle.store.proofs.MachineLaws.{read_same}
-use Rattle.store.proofs.OutcomeLaws.{read_cleared}
+use Rattle.store.proofs.MachineLaws.{by_kind, same_machine, watch_wrote, setting_wrote, read_same}
+use Rattle.store.proofs.OutcomeLaws.{read_cleared, rewatched}
 use Rattle.store.proofs.KeepLaws.{node_kept, inputs_kept, outputs_kept, node_stored, node_octets_lem, node_flags_lem, node_normal}
 use Rattle.store.proofs.KeepLaws.{mappings_kept, same_state}
 
@@ -54,7 +57,7 @@ fresh_store number words =
       flags = fresh_flags;
       words = words;
       limits = replicate 32 (pos 0);
-      deltas = replicate 120 0;
+      deltas = replicate 128 0;
       values = replicate 56 (pos 0);
     }
 
@@ -78,7 +81,7 @@ pub fresh_left : (number : ℕ) (words : List ℕ) → line.Fresh words → Fres
 fresh_left number words f =
     record {
       machines = fresh_machines_lem (parts_of (fresh_store number words)) number refl f (fresh_input number words) (fresh_output number words)
-          (fresh_mapping number words);
+          (fresh_mapping number words) refl;
       normal = record { state = refl };
     }
 
@@ -98,8 +101,9 @@ module _ (d : Store) where
   entered_by : {n : Node} {left : Store} (between deltas : List ℕ) (reset : Bool)
       → ((k : ℕ) → k < 48 → get_or deltas k 0 ≡ get_or d.deltas k 0)
       → ((i : ℕ) → i < 8 → mapping_at deltas i ≡ cond reset empty_mapping (mapping_at d.deltas i))
+      → watches_of deltas ≡ cond reset empty_watches (watches_of d.deltas)
       → Entered n (record d { deltas = between }) left → Stepped d (record left { deltas = deltas }) (moved n reset (parts_of d))
-  entered_by {n} {left} between deltas reset low ms e =
+  entered_by {n} {left} between deltas reset low ms ws e =
       let r = record (with_node n d) { words = left.words; deltas = deltas; values = left.values } in
       let c = e.channels in
       let P : Store → Type 0 = λ x. Stepped d x (moved n reset (parts_of d)) in
@@ -108,22 +112,22 @@ module _ (d : Store) where
         machines =
             node_moved (parts_of d) (parts_of r) n reset _ _ refl refl (node_stored d.octets d.flags n e.sized.octets e.sized.flags)
             e.lines (inputs_past n deltas left.values low c.values_kept.low)
-            (record { channels = λ i h. c.moved.channels i h ∙ ap (move_analogue_output _ _) (outputs_past n i h) }) ms;
+            (record { channels = λ i h. c.moved.channels i h ∙ ap (move_analogue_output _ _) (outputs_past n i h) }) ms ws;
         normal = λ old. record { state = node_normal d.octets d.flags n e.sized.octets e.sized.flags };
       })
 
   pub entered : {n : Node} {left : Store} → Entered n d left → Stepped d left (moved n false (parts_of d))
   entered {n} {left} e =
       subst (λ (x : List ℕ). Stepped d (record left { deltas = x }) (moved n false (parts_of d)))
-      (sym (ap (λ (x : Store). x.deltas) e.stored)) (entered_by d.deltas d.deltas false (λ k h. refl) (λ i h. refl) e)
+      (sym (ap (λ (x : Store). x.deltas) e.stored)) (entered_by d.deltas d.deltas false (λ k h. refl) (λ i h. refl) refl e)
 
-  -- every mapping became empty, some of them after it
+  -- every mapping and the watch became empty, some of them after it
   pub entered_reset : {n : Node} {left : Store} {between deltas : List ℕ} → Zeroed 48 84 d.deltas between
-      → Entered n (record d { deltas = between }) left → Zeroed 84 120 left.deltas deltas
+      → Entered n (record d { deltas = between }) left → Zeroed 84 128 left.deltas deltas
       → Stepped d (record left { deltas = deltas }) (moved n true (parts_of d))
   entered_reset {n} {left} {between} {deltas} p e q =
-      let m = emptied_all (zeroed_both (omega arith) (omega arith) p (rw (ap (λ (x : Store). x.deltas) e.stored) at q)) in
-      entered_by between deltas true m.deltas_kept.low m.mappings e
+      let z = zeroed_both (omega arith) (omega arith) p (rw (ap (λ (x : Store). x.deltas) e.stored) at q) in
+      entered_by between deltas true z.kept.low (emptied_all (omega arith) z) (watches_emptied (omega arith) z) e
 
   -- ---- the node written
 
@@ -134,7 +138,7 @@ module _ (d : Store) where
         machines =
             setting_wrote (parts_of d) (parts_of (with_node n d)) index v
             (node_stored d.octets d.flags n s.octets s.flags ∙ is) refl
-            (inputs_past n d.deltas d.values (λ k h. refl) (λ k h. refl)) (outputs_past n) (λ i h. refl);
+            (inputs_past n d.deltas d.values (λ k h. refl) (λ k h. refl)) (outputs_past n) (λ i h. refl) refl;
         normal = λ old. record { state = node_normal d.octets d.flags n s.octets s.flags };
       })
 
@@ -145,7 +149,7 @@ module _ (d : Store) where
   window_stepped words row w s v l =
       let r = record d { words = words } in
       record {
-        machines = window_wrote (parts_of d) (parts_of r) refl row w s v l (λ i h. refl) (λ i h. refl) (λ i h. refl);
+        machines = window_wrote (parts_of d) (parts_of r) refl row w s v l (λ i h. refl) (λ i h. refl) (λ i h. refl) refl;
         normal = same_state d r refl;
       }
 
@@ -159,7 +163,8 @@ module _ (d : Store) where
         machines =
             input_wrote (parts_of d) (parts_of r)
             (node_kept d.octets octets d.flags d.flags s.octets_kept.low (s.octets_kept.high 21 (omega arith)) (λ k h. refl)) refl
-            index n v s.written (λ i h. refl) (mappings_kept d.deltas deltas s.deltas_kept.high);
+            index n v s.written (λ i h. refl) (mappings_kept d.deltas deltas (λ k h l. s.deltas_kept.high k h))
+            (watches_kept d.deltas deltas (λ k h l. s.deltas_kept.high k (omega arith)));
         normal = same_state d r (s.octets_kept.low 1 (omega arith));
       }
 
@@ -175,7 +180,7 @@ module _ (d : Store) where
             (node_kept d.octets d.octets d.flags flags (λ k h. refl) refl (λ k h. s.flags_kept.low k h)) refl index n v s.written
             (inputs_kept d.octets d.octets d.limits d.deltas d.deltas d.values values (λ k h l. refl) (λ k h. refl)
             (λ k h. s.values_kept.low k h))
-            (λ i h. refl);
+            (λ i h. refl) refl;
         normal = same_state d r refl;
       }
 
@@ -187,7 +192,39 @@ module _ (d : Store) where
         machines =
             mapping_wrote (parts_of d) (parts_of r) refl refl m sub v
             (inputs_kept d.octets d.octets d.limits d.deltas deltas d.values d.values (λ k h l. refl) s.deltas_kept.low (λ k h. refl))
-            (λ i h. refl) s.mappings;
+            (λ i h. refl) (watches_kept d.deltas deltas (λ k h l. s.deltas_kept.high k h)) s.mappings;
+        normal = same_state d r refl;
+      }
+
+  -- ---- the watch
+
+  module _ (deltas : List ℕ) (ws : List Watch) (s : WatchesLeft ws d.deltas deltas) where
+    inputs_left : (i : ℕ) → i < 16 → (parts_of (record d { deltas = deltas })).inputs i ≡ (parts_of d).inputs i
+    inputs_left =
+        inputs_kept d.octets d.octets d.limits d.deltas deltas d.values d.values (λ k h l. refl)
+        (λ k h. s.deltas_kept.low k (omega arith)) (λ k h. refl)
+
+    mappings_left : (i : ℕ) → i < 8 → mapping_at deltas i ≡ mapping_at d.deltas i
+    mappings_left = mappings_kept d.deltas deltas (λ k h l. s.deltas_kept.low k l)
+
+    pub watch_left : Stepped d (record d { deltas = deltas }) (rewatched ws (parts_of d))
+    watch_left =
+        let r = record d { deltas = deltas } in
+        record {
+          machines =
+              by_kind (machines_of r) (rewatched ws (parts_of d)) refl (λ i h. refl) (λ i h. refl)
+              (λ i h. same_machine refl (inputs_left i h)) (λ i h. refl) (λ i h. same_machine refl (mappings_left i h))
+              (same_machine refl s.watches);
+          normal = same_state d r refl;
+        }
+
+  pub watch_stepped : (deltas : List ℕ) (n v : ℕ) → WatchesLeft (write_watch n v (watches_of d.deltas)) d.deltas deltas
+      → Stepped d (record d { deltas = deltas }) (wrote (WatchEntry n) v (parts_of d))
+  watch_stepped deltas n v s =
+      let r = record d { deltas = deltas } in
+      record {
+        machines =
+            watch_wrote (parts_of d) (parts_of r) refl refl n v (inputs_left deltas _ s) (λ i h. refl) (mappings_left deltas _ s) s.watches;
         normal = same_state d r refl;
       }
 
@@ -208,7 +245,7 @@ module _ (d : Store) where
               read_cleared (parts_of d) (parts_of (with_octets octets d)) e
               (node_kept d.octets octets d.flags d.flags (λ k l. c.octets_kept.low k (omega (arith, l)))
               (c.octets_kept.high 21 (omega arith)) (λ k l. refl)) refl (λ k l. refl)
-              (λ k l. refl) h v
+              (λ k l. refl) refl h v
               (sources_taken d.octets octets d.limits d.deltas d.values d.values v (sources_in e v ev h) c);
           normal = same_state d (with_octets octets d) (c.octets_kept.low 1 (omega arith));
         }

@@ -3,7 +3,7 @@
 use Rattle.std.specs.Prelude.{◌≡◌, Bool, true, false, not, cond, ◌||◌, List, [], ℕ, ◌≤◌, ◌<◌, ◌^◌}
 use Rattle.profile.specs.declared.Node.{Node}
 use Rattle.profile.specs.declared.Home.{Home}
-use Rattle.profile.specs.declared.Home.TheVariants.{Constant, Window, InputChannel, OutputChannel, Sources, MappingEntry}
+use Rattle.profile.specs.declared.Home.TheVariants.{Constant, Window, InputChannel, OutputChannel, Sources, MappingEntry, WatchEntry}
 use Rattle.profile.specs.declared.Home.TheVariants as home
 use Rattle.profile.specs.AnalogueInput.{input_size}
 use Rattle.windows.specs.Promises.{Covers}
@@ -13,15 +13,16 @@ use Rattle.analogue_inputs.specs.Promises.{SourcesStored}
 use Rattle.analogue_outputs.specs.Promises.{OutputsMoved}
 use Rattle.analogue_outputs.specs.Writable as channel
 use Rattle.mappings.specs.View.{mapping_at}
+use Rattle.watches.specs.View.{watches_of}
 use Rattle.profile.specs.Nodes.{fault, addressed}
-use Rattle.profile.specs.Refusals.{Check, mapping_checks, create_refusal, created_number}
+use Rattle.profile.specs.Refusals.{Check, mapping_checks, watch_checks, create_refusal, created_number}
 use Rattle.profile.specs.Machines.{entry_names, write_own, clear_own, empty_own, move_own}
 use Rattle.profile.specs.NodeAlone.{writes_setting, write_node}
-use Rattle.profile.specs.Entries.{reads_sources, at_mapping}
+use Rattle.profile.specs.Entries.{reads_sources, at_mapping, at_watch}
 use Rattle.profile.specs.Heard.{Machines, fresh_machines}
 use Rattle.profile.specs.Outcome.{Same, Outcome}
-use Rattle.profile.specs.Calls.{Plain, read, write, sample, command, raise, clear, drive}
-use Rattle.profile.specs.Calls.{Call, direct, receive, transmit, request, Reply}
+use Rattle.profile.specs.Calls.{Plain, read, write, sample, command, raise, clear, drive, heartbeat, pass}
+use Rattle.profile.specs.Calls.{Call, direct, receive, transmit, request, elapsed, Reply}
 use Rattle.store.specs.declared.Store.{Store}
 use Rattle.store.specs.View.{node_at, node_flags, with_node, Parts, own_of, machines, machines_of, Sized, Normal}
 
@@ -40,12 +41,15 @@ command_elsewhere n (command code to) = not (addressed to n)
 command_elsewhere n (raise cause) = false
 command_elsewhere n (clear cause) = false
 command_elsewhere n (drive lines channels) = false
+command_elsewhere n (heartbeat node) = false
+command_elsewhere n (pass t) = false
 
 abbrev pub elsewhere : Node → Call → Bool
 elsewhere n (direct c) = command_elsewhere n c
 elsewhere n (receive message frame) = false
 elsewhere n (transmit message frame) = false
 elsewhere n (request frame reply) = false
+elsewhere n (elapsed t) = false
 
 -- the promise of each other call: the complete outcome for the machines; a refused call and a command for another node
 -- leave every array; a device whose state's byte is normal stays so
@@ -65,8 +69,8 @@ pub record Stepped (before left : Store) (ms : Machines) : Type 0 where
   pub machines : Same (machines_of left) ms
   pub normal : Normal before → Normal left
 
--- every machine of the device has the node n, its mappings are empty after a reset of communication, and its outputs have moved as fault
--- began, lasted or ended
+-- every machine of the device has the node n, its mappings and its watch are empty after a reset of communication, and its outputs have
+-- moved as fault began, lasted or ended
 abbrev pub moved : Node → Bool → Parts → Machines
 moved n reset d k i = record { node = n; own = move_own (fault d.node) (fault n) k (empty_own reset k (own_of d k i)) }
 
@@ -90,6 +94,7 @@ Readable (OutputChannel index n) = n < 8
 Readable Sources = Unit {0}
 Readable (home.Device index) = Unit {0}
 Readable (MappingEntry m sub) = (m < 8) × (sub ≤ 8)
+Readable (WatchEntry n) = n < 4
 
 -- and a value that the refusal table lets pass
 abbrev pub Writable : Home → ℕ → Type 0
@@ -100,10 +105,12 @@ Writable (OutputChannel index n) v = (n < 8) × channel.Writable index v
 Writable Sources v = ⊥
 Writable (home.Device index) v = v < 256
 Writable (MappingEntry m sub) v = (m < 8) × (sub ≤ 8)
+Writable (WatchEntry n) v = n < 4
 
 -- the rows of the refusal table that depend on what the array holds
 abbrev pub held_by : List ℕ → Home → ℕ → List Check
-held_by deltas e v = at_mapping [] (λ m sub. mapping_checks (mapping_at deltas m) m sub v) e
+held_by deltas e v =
+    at_mapping (at_watch [] (λ n. watch_checks (watches_of deltas) n v) e) (λ m sub. mapping_checks (mapping_at deltas m) m sub v) e
 
 -- the node n was stored, and the outputs have moved as fault began, lasted or ended
 pub record Entered (n : Node) (before left : Store) : Type 0 where

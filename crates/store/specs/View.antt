@@ -9,11 +9,13 @@ use Rattle.profile.specs.declared.Node.{Node}
 use Rattle.profile.specs.declared.AnalogueInput.{AnalogueInput}
 use Rattle.profile.specs.declared.AnalogueOutput.{AnalogueOutput}
 use Rattle.profile.specs.MappedEntries.{Mapping}
-use Rattle.profile.specs.Machines.{Kind, node_alone, input_line, output_line, analogue_input, analogue_output, mapping, Own}
+use Rattle.profile.specs.WatchEntries.{Watch}
+use Rattle.profile.specs.Machines.{Kind, node_alone, input_line, output_line, analogue_input, analogue_output, mapping, watch, Own}
 use Rattle.profile.specs.Heard.{Machines}
 use Rattle.lines.specs.View as line
 use Rattle.channels.specs.View.{input_at, output_at}
 use Rattle.mappings.specs.View.{mapping_at}
+use Rattle.watches.specs.View.{watches_of}
 use Rattle.store.specs.declared.Store.{Store}
 
 -- ---- the node
@@ -66,6 +68,7 @@ pub record Parts : Type 0 where
   pub inputs : ℕ → AnalogueInput
   pub outputs : ℕ → AnalogueOutput
   pub mappings : ℕ → Mapping
+  pub watches : List Watch
 
 -- the own settings and state of machine i of a kind
 abbrev pub own_of : Parts → (k : Kind) → ℕ → Own k
@@ -75,6 +78,7 @@ own_of d output_line i = line.output_at d.words i
 own_of d analogue_input i = d.inputs i
 own_of d analogue_output i = d.outputs i
 own_of d mapping i = d.mappings i
+own_of d watch i = d.watches
 
 -- each machine, with the node for its own
 abbrev pub machines : Parts → Machines
@@ -88,6 +92,7 @@ parts_of d =
       inputs = input_at d.octets d.limits d.deltas d.values;
       outputs = output_at d.flags d.values;
       mappings = mapping_at d.deltas;
+      watches = watches_of d.deltas;
     }
 
 -- each machine of the device
@@ -105,7 +110,7 @@ pub record Sized (d : Store) : Type 0 where
   pub flags : length d.flags ≡ 12
   pub words : length d.words ≡ 40
   pub limits : length d.limits ≡ 32
-  pub deltas : length d.deltas ≡ 120
+  pub deltas : length d.deltas ≡ 128
   pub values : length d.values ≡ 56
 
 -- the state's byte is the number of a state

@@ -93,6 +93,7 @@ impl Store {
         self.values = [0; VALUES];
         machines::fresh(&mut self.words);
         empty_transmitted(&mut self.deltas);
+        watches::empty(&mut self.deltas);
     }
 }
 

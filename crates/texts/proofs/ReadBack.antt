@@ -14,8 +14,8 @@ use mir.Val.{SFits, of_z, to_z}
 use mir.Facts.{to_z-of_z, Fits-of_z}
 use borrow.Author.Tests.{lt-ltb, le-ltb, ltb-true, ltb-false, ne_eqb}
 use Rattle.words.specs.Words.{run, with_byte, pieces_of, without_empty, words_of, is_word}
-use Rattle.words.specs.Numbers.{digit_of, all_digits, spelled_on, spelled, capped, is_number, number_of, short_number, minus, plus}
-use Rattle.words.specs.Numbers.{signed_of}
+use Rattle.words.specs.Numbers.{digit_of, all_digits, spelled_on, spelled, no_number, capped, is_number, number_of, short_number}
+use Rattle.words.specs.Numbers.{minus, plus, signed_of}
 use Rattle.words.specs.Items.{Item, byte_item, number_item, slash, Found, items, missing, with_item, items_of}
 use Rattle.texts.specs.Texts.{glyph_of, digits_of, hex_text, long_hex_text, places_of, decimal_text, bits_text, each_text, bytes_text}
 use Rattle.texts.specs.Texts.{numbers_text}
@@ -114,8 +114,8 @@ pub digits_length : (b k n : ℕ) → length (digits_of b k n) ≡ k
 digits_length b zero n = refl
 digits_length b (suc k) n = length-append (digits_of b k (n / b)) (glyph_of (n % b) ∷ []) ∙ omega (arith, digits_length b k (n / b))
 
-capped_same : (n : ℕ) → n < 65536 → capped n ≡ n
-capped_same n h = rw (lt-ltb n 65536 h)
+capped_same : (n : ℕ) → n < no_number → capped n ≡ n
+capped_same n h = rw (lt-ltb n no_number h)
 
 module _ (b : ℕ) (p : 0 < b) (q : b ≤ 16) where
   all_digits_lem : (k n : ℕ) → all_digits b (digits_of b k n) ≡ true
@@ -132,10 +132,10 @@ module _ (b : ℕ) (p : 0 < b) (q : b ≤ 16) where
   digits_number k n h = number_some b (digits_of b k n) (omega (arith, h, digits_length b k n)) ∙ all_digits_lem k n
 
   -- the digits of n read back as n, in any base up to 16
-  pub digits_read : (k n : ℕ) → 1 ≤ k → n < b ^ k → n < 65536 → number_of b (digits_of b k n) ≡ n
+  pub digits_read : (k n : ℕ) → 1 ≤ k → n < b ^ k → n < no_number → number_of b (digits_of b k n) ≡ n
   unfolding number_of
   digits_read k n h l m =
-      ap (λ t. cond t (capped (spelled b (digits_of b k n))) 65536) (digits_number k n h)
+      ap (λ t. cond t (capped (spelled b (digits_of b k n))) no_number) (digits_number k n h)
       ∙ ap capped (digits_back b k n p q l)
       ∙ capped_same n m
 
@@ -152,8 +152,8 @@ decimal_number : (n : ℕ) → is_number 10 (decimal_text n) ≡ true
 unfolding decimal_text
 decimal_number n = digits_number 10 (omega arith) (omega arith) (places_of 19 n) n (places_some 19 n)
 
--- a decimal number reads back
-pub decimal_reads : (n : ℕ) → n < 65536 → number_of 10 (decimal_text n) ≡ n
+-- a decimal number of 32 bits reads back
+pub decimal_reads : (n : ℕ) → n < no_number → number_of 10 (decimal_text n) ≡ n
 unfolding decimal_text
 decimal_reads n h = digits_read 10 (omega arith) (omega arith) (places_of 19 n) n (places_some 19 n) (places_fit 19 n (omega (arith, h))) h
 
@@ -193,7 +193,7 @@ signed_reads u h = at (ltb u 32768) (ltb-true u 32768) (ltb-false u 32768)
         (cond t (decimal_text u) (45 ∷ decimal_text (65536 - u))) ≡ u
     at true l g =
         sym (plus_is (decimal_text u) u (other_first 10 45 (decimal_text u) (omega arith) refl (decimal_number u))
-        (sym (ap plus (decimal_reads u h) ∙ plus_small u (l refl))))
+        (sym (ap plus (decimal_reads u (omega (arith, h))) ∙ plus_small u (l refl))))
     at false l g =
         let k : 32768 ≤ u = g refl in
         sym (minus_is (45 ∷ decimal_text (65536 - u)) u refl

@@ -12,11 +12,11 @@ use lib.Seq.{drop-cons}
 use borrow.Author.Tests.{lt-ltb, le-ltb, eq-eqb, ne_eqb}
 use Rattle.std.specs.Char.{digit_value}
 use Rattle.std.proofs.lemmas.Bool.Decides.{nat_tests}
-use Rattle.words.specs.Numbers.{digit_of, all_digits, spelled_on, capped, number_of, short_number, minus, plus, signed_of}
+use Rattle.words.specs.Numbers.{digit_of, all_digits, spelled_on, no_number, capped, number_of, short_number, minus, plus, signed_of}
 
 -- what is left of a word makes of the number so far
 abbrev pub onward : ℕ → ℕ → List ℕ → ℕ
-onward b v rest = cond (all_digits b rest) (capped (spelled_on b v rest)) 65536
+onward b v rest = cond (all_digits b rest) (capped (spelled_on b v rest)) no_number
 
 -- a digit is the library's
 digit_is : (x : ℕ) → (digit_value x < 16 → digit_of x ≡ digit_value x) × (16 ≤ digit_value x → digit_of x ≡ 16)
@@ -30,7 +30,7 @@ spelled_most b v (x ∷ rest) h =
     let q : v * 1 ≤ v * b = mul-le-mul_left v h in
     omega (arith, q, spelled_most b (v * b + digit_of x) rest h)
 
-pub onward_over : (b v : ℕ) (rest : List ℕ) → 1 ≤ b → 65536 ≤ v → onward b v rest ≡ 65536
+pub onward_over : (b v : ℕ) (rest : List ℕ) → 1 ≤ b → no_number ≤ v → onward b v rest ≡ no_number
 onward_over b v rest h k = let most = spelled_most b v rest h in grind (arith, nat_tests)
 
 pub number_is : (b : ℕ) (word : List ℕ) → (length word ≡ 0 → ⊥) → onward b 0 word ≡ number_of b word
@@ -38,7 +38,7 @@ unfolding number_of
 number_is b [] n = absurd (n refl)
 number_is b (x ∷ xs) n = refl
 
-pub number_none : (b : ℕ) (word : List ℕ) → length word ≡ 0 → 65536 ≡ number_of b word
+pub number_none : (b : ℕ) (word : List ℕ) → length word ≡ 0 → no_number ≡ number_of b word
 unfolding number_of
 number_none b [] e = refl
 number_none b (x ∷ xs) e = absurd (omega (arith, e))
@@ -51,13 +51,13 @@ module _ (b v : ℕ) (word : List ℕ) (i : ℕ) (base : b ≤ 16) where
       let d = (digit_is (get_or word i 0)).0 (omega arith) in
       rw (add-one, drop-cons word i 0 inside) (grind (arith, nat_tests))
 
-  pub onward_none : i < length word → b ≤ digit_value (get_or word i 0) → onward b v (drop i word) ≡ 65536
+  pub onward_none : i < length word → b ≤ digit_value (get_or word i 0) → onward b v (drop i word) ≡ no_number
   onward_none inside h =
       let d = digit_is (get_or word i 0) in
       rw (drop-cons word i 0 inside) (grind (arith, nat_tests, d.0, d.1))
 
-  pub onward_ends : length word ≤ i → v < 65536 → onward b v (drop i word) ≡ v
-  onward_ends h k = rw (drop_of_length-le word h, lt-ltb v 65536 k)
+  pub onward_ends : length word ≤ i → v < no_number → onward b v (drop i word) ≡ v
+  onward_ends h k = rw (drop_of_length-le word h, lt-ltb v no_number k)
 
 -- what a loop over a word's digits needs
 pub ruleset digits_read = (number_none, number_is, onward_more, onward_none, onward_over, onward_ends)

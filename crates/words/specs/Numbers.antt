@@ -26,21 +26,24 @@ spelled_on base n (x ∷ xs) = spelled_on base (n * base + digit_of x) xs
 abbrev pub spelled : ℕ → List ℕ → ℕ
 spelled base word = spelled_on base 0 word
 
--- 65,536 stands for every larger number
+-- stands for a word that spells no number, and for every number of more than 32 bits
+abbrev pub no_number : ℕ
+no_number = 4294967296
+
 abbrev pub capped : ℕ → ℕ
-capped n = cond (ltb n 65536) n 65536
+capped n = cond (ltb n no_number) n no_number
 
 abbrev pub is_number : ℕ → List ℕ → Bool
 is_number base [] = false
 is_number base (x ∷ xs) = all_digits base (x ∷ xs)
 
--- the number that a word spells; 65,536 where it spells none, or a larger one
+-- the number that a word spells; `no_number` where it spells none, or one of more than 32 bits
 unfoldable pub number_of : ℕ → List ℕ → ℕ
-number_of base word = cond (is_number base word) (capped (spelled base word)) 65536
+number_of base word = cond (is_number base word) (capped (spelled base word)) no_number
 
 -- the same of at most `most` digits
 unfoldable pub short_number : ℕ → List ℕ → ℕ
-short_number most word = cond (ltb most (length word)) 65536 (number_of 16 word)
+short_number most word = cond (ltb most (length word)) no_number (number_of 16 word)
 
 -- 16 bits in two's complement of 0 - n; 65,536 for an n above 32,768
 abbrev pub minus : ℕ → ℕ

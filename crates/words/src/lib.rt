@@ -36,4 +36,6 @@ pub enum Expected {
     Answer,
     // From 1 to 4.
     Message,
+    // From 0 to 4294967295.
+    Milliseconds,
 }

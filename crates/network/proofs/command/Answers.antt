@@ -1,6 +1,8 @@
 -- command: refused, for another node, reset node, or obeyed.
 -- Assumes nothing.
 use mathlib.Core.Path.{ap}
+use native.Mathlib.Omega.{arith}
+use Rattle.channels.proofs.StoreLaws.{zeroed_both}
 use Rattle.store.proofs.CallLaws.{command_refused, passed, reset, obeyed, obeyed_reset}
 use Rattle.network.proofs.command.Goals as goal
 
@@ -19,7 +21,8 @@ returns-in-ResetNode c =
 pub returns-in-ResetCommunication : goal.returns-in-ResetCommunication
 returns-in-ResetCommunication c =
     obeyed_reset _ _ _ _ c.in_ok-command.ensures (cc) _ (cc) _ c.in-ResetCommunication.is
-    c.empty_received.ensures c.enter.ensures c.empty_transmitted.ensures
+    c.empty_received.ensures c.enter.ensures
+    (zeroed_both (omega arith) (omega arith) c.empty_transmitted.ensures c.empty.ensures)
 
 pub returns-in_default : goal.returns-in_default
 returns-in_default c =

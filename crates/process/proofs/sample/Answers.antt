@@ -26,6 +26,7 @@ returns-clause-call c =
           (met.octets_kept.high 21 (omega arith)) (λ k h. refl);
       outputs = outputs_kept d.flags d.flags d.values e.values (λ k h. refl) (λ k h. met.values_kept.high k h);
       mappings = λ i h. refl;
+      watched = refl;
       row = c.load.result;
       edges = c.sample-edges.result;
       reported = c.reported.result;
