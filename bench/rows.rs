@@ -49,7 +49,7 @@ pub const ROWS: [Row; 29] = [
 
 /// Operational, analogue events on, a filter on the first lines, a delta of 10; eight bytes mapped for
 /// message 1 and one for message 2, byte by byte, so that a full frame has as many entries as it can; four nodes
-/// watched, each for a second.
+/// watched, each with a time of a second.
 pub fn set_up(filtered: u8) -> Vec<Call> {
     let mut calls = vec![Call::Command { code: 1, node: 0 }, write(0x6423, 0, 1, 1)];
     calls.extend((1..=filtered / 16).map(|sub| write(0x6103, sub, 0xFFFF, 2)));

@@ -254,7 +254,7 @@ static void over_watches(size_t *worst, void (*call)(void))
     }
 }
 
-/* The four entries watch nodes 1 to 4 for 1 to 4 s: a heartbeat of each node and of one that none watches. */
+/* The four entries watch nodes 1 to 4, with times of 1 to 4 s: a heartbeat of each node and of one that none watches. */
 static void watch_nodes(size_t *worst)
 {
     for (uint8_t sub = 1; sub <= IO401_WATCH_ENTRIES; sub++)

@@ -8,7 +8,7 @@ const NEVER: u64 = u64::MAX;
 #[derive(Clone, Copy)]
 pub struct Watches {
     values: [u32; 4],
-    /// By node, the used entry that names it; no node above has one.
+    /// By node, the used entry that names it; no node above 127 has one.
     entries: [u8; 128],
     /// All milliseconds since the entries were last empty.
     clock: u64,

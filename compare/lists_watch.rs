@@ -34,7 +34,7 @@ impl Source {
         match self.random.below(100) {
             0..8 if !self.watches.are_busy() => self.begin_to_watch(),
             0..40 => Call::Elapsed { milliseconds: self.milliseconds() },
-            40..62 => Call::Heartbeat { node: self.beating_node() },
+            40..62 => Call::Heartbeat { node: self.sending_node() },
             62..77 => self.watch_write(),
             77..82 => self.watch_read(),
             82..86 => self.error_behaviour_write(),
@@ -56,7 +56,7 @@ impl Source {
         self.command_of(code, node)
     }
 
-    /// Mostly the node is started and can lose communication; then entries are set, and their nodes beat.
+    /// Mostly the node is started and can lose communication; then entries are set, and their nodes send.
     fn begin_to_watch(&mut self) -> Call {
         let mut calls = VecDeque::new();
         if self.random.chance(80) {
@@ -154,7 +154,7 @@ impl Source {
     }
 
     /// Mostly one that an entry names.
-    fn beating_node(&mut self) -> u8 {
+    fn sending_node(&mut self) -> u8 {
         let any = self.random.next() as u8;
         let (named, own) = (self.named_node(), self.number());
         match self.random.below(20) {

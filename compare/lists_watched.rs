@@ -23,7 +23,7 @@ impl Entry {
         self.value as u16 != 0 && (1..=127).contains(&self.node())
     }
 
-    fn beat(&mut self, node: u8) {
+    fn take_heartbeat(&mut self, node: u8) {
         if self.is_used() && self.node() == node {
             self.left = Some(self.value & 0xFFFF);
         }
@@ -105,7 +105,7 @@ impl Watches {
                 (0x1029, 1, [behaviour @ 0..=2]) => self.error_behaviour = *behaviour,
                 _ => {}
             },
-            Call::Heartbeat { node } => self.entries.iter_mut().for_each(|entry| entry.beat(*node)),
+            Call::Heartbeat { node } => self.entries.iter_mut().for_each(|entry| entry.take_heartbeat(*node)),
             Call::Elapsed { milliseconds } => self.elapse(*milliseconds),
             Call::Raise(Cause::CommunicationLoss) => self.lose(),
             Call::Clear(Cause::CommunicationLoss) => self.loss = false,

@@ -42,14 +42,14 @@ fn play_all(devices: &mut All, calls: &[Call], done: &mut u64) {
     }
 }
 
-/// Each node as an entry's, and each as the one that beats.
+/// Each node as an entry's, and each as the one that sends.
 fn every_node(done: &mut u64) {
     let mut devices = All::create(1);
     for node in 0..=u8::MAX {
         let sub = 1 + node % 4;
         play_all(&mut devices, &[entry(sub, u32::from(node) << 16 | 7)], done);
-        for beating in 0..=u8::MAX {
-            let calls = [Call::Heartbeat { node: beating }, elapsed(7), REGISTER, Call::Clear(LOSS)];
+        for sending in 0..=u8::MAX {
+            let calls = [Call::Heartbeat { node: sending }, elapsed(7), REGISTER, Call::Clear(LOSS)];
             play_all(&mut devices, &calls, done);
         }
         play_all(&mut devices, &[entry(sub, 0)], done);

@@ -112,7 +112,8 @@ extern "C" {
  * its heartbeat are communication loss (io401_heartbeat, io401_elapsed). An entry with 0 milliseconds, or with a
  * node outside 1 to 127, is unused and watches none. No two used entries name the same node. Writing an entry stops
  * its watch until the node's next heartbeat, with its own value too; either reset sets all four entries to 0.
- * Numbers too high for their field, above 255 and 65,535, give a value that 1016 refuses; each is evaluated twice.
+ * Numbers too high for their field, above 255 and 65,535, give a value that 1016 refuses; each argument is
+ * evaluated twice. For node 2 and 300 ms: io401_write_value(&device, 0x1016, 1, IO401_WATCH_ENTRY(2, 300), 4).
  */
 #define IO401_WATCH_ENTRY(node, milliseconds)                                                                         \
     (((uint64_t)(node) >> 8 | (uint64_t)(milliseconds) >> 16) != 0                                                    \
@@ -227,7 +228,7 @@ static inline io401_read_answer io401_read(io401_device *device, uint16_t index,
 /*
  * Writes an entry: `length` bytes, the least significant first. The length must be the entry's
  * size. Refusals are IO401_ABORT_.., the first that applies in the order listed above; the last four
- * are those of a mapping, of its entries the first two and of its count the third, and that of 1016.
+ * depend on what the device holds: two of a mapping's entries, one of its count, one of an entry of 1016.
  */
 static inline uint32_t io401_write(io401_device *device, uint16_t index, uint8_t sub, const uint8_t *bytes,
                                    size_t length)
@@ -386,10 +387,11 @@ static inline io401_request_answer io401_request(io401_device *device, const uin
 
 /*
  * A heartbeat of a node has come. CAN identifiers are the caller's business: by default it is a frame with 0x700
- * plus that node's number. Where an entry of 1016 is used for that node, the first heartbeat since it was written,
- * or since it raised a loss, starts its watch, and each later one sets what it has added up to 0. A heartbeat of
- * any other node, 0 and those above 127 too, does nothing. None clears a communication loss: io401_clear and the two
- * resets do. Never refused, whatever the state of this device: the answer is 0.
+ * plus that node's number. A boot-up message has that identifier too, with a byte 00; whether it counts is the
+ * caller's choice. Where an entry of 1016 is used for that node, the first heartbeat since it was written, or since
+ * it raised a loss, starts its watch, and each later one sets what it has added up to 0. A heartbeat of any other
+ * node, 0 and those above 127 too, does nothing. None clears a communication loss: io401_clear and the two resets do.
+ * Never refused, whatever the state of this device: the answer is 0.
  */
 static inline uint32_t io401_heartbeat(io401_device *device, uint8_t node)
 {
@@ -398,9 +400,11 @@ static inline uint32_t io401_heartbeat(io401_device *device, uint8_t node)
 
 /*
  * Milliseconds that have elapsed since the last such call, any number, 0 too: the tick of a timer. Each watch that
- * has started adds them up, all of them, also where its heartbeat came in between: a loss may come early by up to
- * the milliseconds of one call. A watch whose sum reaches or passes the time of its entry raises communication loss
- * in this very call, as io401_raise does, and then waits for a first heartbeat again; the other watches go on.
+ * has started adds them up, all of them, also where its heartbeat came in between: a loss may come early or late by
+ * up to the milliseconds of one call. To avoid early, bring the time that has elapsed before each heartbeat. A watch
+ * whose sum reaches or passes the time of its entry raises communication loss in this very call, as io401_raise does,
+ * and then waits for a first heartbeat again; the other watches go on. The answer does not say which node was lost:
+ * its watch stands at 0 in the last four of `deltas`, and did not before. A node that is never heard is never lost.
  * Never refused, whatever the state of this device: the answer is 0.
  */
 static inline uint32_t io401_elapsed(io401_device *device, uint32_t milliseconds)

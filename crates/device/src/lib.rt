@@ -10,7 +10,7 @@ pub mod frames;
 pub mod methods;
 // request as a method.
 pub mod requests;
-// heartbeat and elapsed as methods.
+// heartbeat and elapsed as methods, and what the player's remarks ask of the watch.
 pub mod watch;
 
 #[derive(Clone, Copy)]

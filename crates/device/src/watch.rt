@@ -1,4 +1,4 @@
-// heartbeat and elapsed as methods.
+// heartbeat and elapsed as methods, and what the player's remarks ask of the watch.
 ghost use Rattle.std.specs.Prelude.{◌≡◌};
 ghost use Rattle.profile.specs.Numbers.{number_answered};
 ghost use Rattle.profile.specs.Answers.{plain_answer};
@@ -44,10 +44,10 @@ impl Device {
     }
 
     // A watch is started.
-    pub fn is_running(&self) -> bool
-        ensures { result ≡ machine.is_running (machines_of self.now watch 0).own }
+    pub fn any_started(&self) -> bool
+        ensures { result ≡ machine.any_started (machines_of self.now watch 0).own }
     {
-        conditions::is_running(&self.store.deltas)
+        conditions::any_started(&self.store.deltas)
     }
 
     // An entry of the watch expires by so many milliseconds more.

@@ -20,7 +20,7 @@ pub const MAPPINGS: usize = 48;
 // Of these the transmit mappings.
 const TRANSMITTED: usize = 84;
 
-// Past the last.
+// Past the last, where the watch begins.
 const PAST: usize = 120;
 
 // The numbers of a mapping: the count and eight entries, by sub-index.

@@ -39,7 +39,7 @@ pub fn command(store: &mut Store, code: u8, to: u8) -> Result<(), Refusal>
     match command {
         Command::ResetNode => store.set_fresh(was.number),
         Command::ResetCommunication => {
-            // What empties does in parts with other stores between: one fill of more than 256 bytes is compiled to a call of memset.
+            // The mappings and the watch are emptied in parts, with other stores between: one fill of more than 256 bytes would call memset.
             empty_received(&mut store.deltas);
             enter(store, new);
             empty_transmitted(&mut store.deltas);

@@ -22,7 +22,7 @@ impl Session {
         ensures { Played self.old (call (Doc.elapsed milliseconds)) self.new }
     {
         let due = self.device.is_due(milliseconds);
-        let running = self.device.is_running();
+        let running = self.device.any_started();
         let got = self.device.elapsed(milliseconds);
         put_elapsed(&mut self.out, got.answer, due, running);
         self.count(got);

@@ -256,7 +256,7 @@ heard_leaves ms (receive message frame) h =
 heard_leaves ms (transmit message frame) h = tt
 heard_leaves ms (request frame buffer) h =
     picked Leave (served (ms node_alone 0).node frame buffer) (asked frame) [] (λ e. asked_leaves (asked frame) h) (λ e. tt)
-heard_leaves ms (elapsed t) h = (refl, picked Leave (is_due t (ms watch 0).own) (raise Lost ∷ []) [] (λ e. (refl, tt)) (λ e. tt))
+heard_leaves ms (elapsed t) h = (refl, picked Leave (is_due t (ms watch 0).own) _ _ (λ e. (refl, tt)) (λ e. tt))
 
 -- two families, over a list of calls
 run_alike : (cs : List Call) → each leaves_three cs ≡ true → (a b : Machines) → ((k : Kind) (i : ℕ) → Alike k (a k i) (b k i))

@@ -1,20 +1,20 @@
 -- Document 02, Item 5: an entry of 1016 at what the machine of the watch does, which writes name it, and a node's number at any call.
 -- Assumes nothing.
-use mathlib.Core.Path.{◌≡◌, refl, ap, ◌∙◌, sym}
+use mathlib.Core.Path.{◌≡◌, refl, ap, ◌∙◌, sym, ap₂}
 use mathlib.Core.Bool.{Bool, true, false, not, ◌||◌, ◌&&◌, false≢true, or-true}
 use mathlib.Core.List.{List, [], ◌∷◌, map}
-use Prim.Native.Nat.{ℕ, zero, suc, ◌-◌, ◌<◌}
+use Prim.Native.Nat.{ℕ, zero, suc, ◌-◌, ◌<◌, ◌+◌}
 use native.Mathlib.Omega.{arith}
 use lib.Dec.{eqb, leb}
 use lib.ListN.{length, take, drop, get_or-map}
 use lib.Seq.{get_or-set_other}
-use borrow.Author.Tests.{eqb-true, eqb-false, eq-eqb}
+use borrow.Author.Tests.{eqb-true, eqb-false, eq-eqb, leb-true, le-leb}
 use Rattle.profile.specs.declared.Node.{Node}
 use Rattle.profile.specs.declared.Cause.TheVariants.{Internal, Lost}
 use Rattle.profile.specs.declared.Home.{Home}
 use Rattle.profile.specs.declared.Home.TheVariants.{Constant, Window, InputChannel, OutputChannel, Sources, Device, MappingEntry, WatchEntry}
 use Rattle.profile.specs.Nodes.{operational, raise_node, clear_node, addressed, obey_node}
-use Rattle.profile.specs.Entries.{setting, object_of, entry_of, home_of, at_watch}
+use Rattle.profile.specs.Entries.{watch_object, object_of, entry_of, home_of, at_watch}
 use Rattle.profile.specs.MappedEntries.{index_of, sub_of, mappable, moves, moved, total}
 use Rattle.profile.specs.WatchEntries.{Watch, waiting, watch_at, node_in, time_in, is_used, watches, some}
 use Rattle.profile.specs.Watch.{take_heartbeat, expires, take_time, write_watch}
@@ -31,6 +31,7 @@ use Rattle.profile.proofs.MappedLaws.{moving}
 use Rattle.profile.proofs.LengthLaws.{fold_holds}
 use Rattle.profile.proofs.EntryTests.{at_holds, entry_passes}
 use Rattle.profile.proofs.NodesAgree.{bare, node_by, node_step, after_node}
+use Rattle.profile.specs.WatchClaims.{Reaches}
 
 -- ---- a test of the numbers below k
 
@@ -56,6 +57,33 @@ some_not (suc k) p n h e =
     by : (t : Bool) → eqb k n ≡ t → not t && p k ≡ false → p k ≡ false
     by true q r = ap p (eqb-true k n q) ∙ e
     by false q r = r
+
+-- none of the numbers below k passes
+pub some_none : (k : ℕ) (p : ℕ → Bool) → ((j : ℕ) → j < k → p j ≡ false) → some k p ≡ false
+some_none zero p h = refl
+some_none (suc k) p h = rw (some_none k p (λ j l. h j (omega arith)), h k (omega arith)) refl
+
+-- and none but n
+pub but_n : (j n : ℕ) (b : Bool) → ((j ≡ n → ⊥) → b ≡ false) → not (eqb j n) && b ≡ false
+but_n j n b h = by (eqb j n) refl
+  where
+    by : (t : Bool) → eqb j n ≡ t → not t && b ≡ false
+    by true e = refl
+    by false e = h (eqb-false j n e)
+
+-- an entry that reaches its time expires, and no other
+pub reaching_expires : (t : ℕ) (w : Watch) → Reaches t w → expires t w ≡ true
+unfolding expires
+reaching_expires t w r = ap₂ (λ (a b : Bool). a && b) r.started (le-leb (time_in w.value) (w.sum + t) r.time)
+
+pub short_stays : (t : ℕ) (w : Watch) → (Reaches t w → ⊥) → expires t w ≡ false
+unfolding expires
+short_stays t w h = by w.started (leb (time_in w.value) (w.sum + t)) refl refl
+  where
+    by : (a b : Bool) → w.started ≡ a → leb (time_in w.value) (w.sum + t) ≡ b → a && b ≡ false
+    by true true p q = absurd (h (record { started = p; time = leb-true (time_in w.value) (w.sum + t) q }))
+    by true false p q = refl
+    by false b p q = refl
 
 -- ---- an entry at a heartbeat, at time that passes, and at a write of another: each of the four by itself
 
@@ -116,7 +144,7 @@ named_at : (sub : ℕ) → at_watch true (λ n. eqb sub (suc n)) (home_of 0x1016
 unfolding entry_of object_of
 named_at zero = refl
 named_at (suc k) =
-    at_holds (λ e. at_watch true (λ n. eqb (suc k) (suc n)) e.home ≡ true) (suc k) (setting 4 4 0 0xFFFFFF (WatchEntry (suc k - 1)))
+    at_holds (λ e. at_watch true (λ n. eqb (suc k) (suc n)) e.home ≡ true) (suc k) (watch_object (suc k - 1))
     refl refl (eq-eqb (suc k) (suc (suc k - 1)) (before k))
   where
     before : (k : ℕ) → suc k ≡ suc (suc k - 1)
@@ -146,7 +174,7 @@ unnamed_entry index sub v i m ws n ne =
 -- no mapping moves 1016: "nothing else is mappable"
 unmapped : (m sub : ℕ) → mappable m (home_of 0x1016 sub) ≡ false
 unfolding entry_of object_of
-unmapped m sub = at_holds (λ e. mappable m e.home ≡ false) sub (setting 4 4 0 0xFFFFFF (WatchEntry (sub - 1))) refl refl refl
+unmapped m sub = at_holds (λ e. mappable m e.home ≡ false) sub (watch_object (sub - 1)) refl refl refl
 
 moving_elsewhere : (m u : ℕ) → moves m u ≡ true → eqb (index_of u) 0x1016 ≡ false
 moving_elsewhere m u h = by (eqb (index_of u) 0x1016) refl

@@ -1,40 +1,41 @@
--- Document 02, Item 5: what ends a watch, what alone starts one, what the other machines hear of an elapsed call, and the values of
--- 1016 in numbers.
+-- Document 02, Item 5: what ends a watch, what alone starts one, an entry read and a write of it refused, and the values of 1016 in
+-- numbers.
 -- Assumes nothing.
-use mathlib.Core.Path.{◌≡◌, refl, ap, ap₂, ◌∙◌, sym}
+use mathlib.Core.Path.{◌≡◌, refl, ap, ap₂, ◌∙◌}
 use mathlib.Core.Bool.{Bool, true, false, not, cond, ◌||◌, ◌&&◌, false≢true, and-false}
 use mathlib.Core.List.{List, [], ◌∷◌, ◌++◌}
 use Prim.Native.Nat.{ℕ, zero, suc, ◌+◌, ◌*◌, ◌<◌}
 use native.Mathlib.Omega.{arith}
 use lib.Dec.{eqb, leb}
 use lib.Seq.{get_or-set_same}
-use borrow.Author.Tests.{ne_eqb, le-ltb, le-leb, lt-leb, eqb-false}
-use Rattle.profile.specs.declared.Cause.TheVariants.{Lost}
+use borrow.Author.Tests.{ne_eqb, le-ltb, le-leb, lt-leb}
 use Rattle.profile.specs.declared.Home.TheVariants.{WatchEntry}
 use Rattle.profile.specs.Bytes.{little_endian}
 use Rattle.profile.specs.Nodes.{addressed}
 use Rattle.profile.specs.Entries.{object_of, entry_of, home_of, not_allowed, above_range, below_range}
-use Rattle.profile.specs.WatchEntries.{Watch, waiting, empty_watches, watch_at, node_in, time_in, is_used, watches, some, is_second}
-use Rattle.profile.specs.Watch.{expires, take_time, is_due}
-use Rattle.profile.specs.Calls.{Plain, write, command, raise, pass}
+use Rattle.profile.specs.WatchEntries.{Watch, waiting, empty_watches, watch_at, node_in, time_in, is_used, watches, is_second}
+use Rattle.profile.specs.Watch.{expires, take_time}
+use Rattle.profile.specs.Calls.{Plain, write, command}
 use Rattle.profile.specs.Calls.{Call, direct, receive, transmit, request, elapsed}
-use Rattle.profile.specs.Refusals.{refusal, write_refusal, watch_checks}
-use Rattle.profile.specs.Machines.{Kind, node_alone, input_line, output_line, analogue_input, analogue_output, mapping, watch, Machine}
+use Rattle.profile.specs.Refusals.{refusal, write_refusal, watch_checks, read_refusal}
+use Rattle.profile.specs.Machines.{watch, Machine}
 use Rattle.profile.specs.Machines.{command_own, step}
-use Rattle.profile.specs.Heard.{Machines, fold, number_of, heard_as, step_all}
+use Rattle.profile.specs.Heard.{Machines, number_of, heard_as, step_all}
 use Rattle.profile.specs.Lists.{each, after}
 use Rattle.profile.specs.WatchClaims.{entry_after, Ends, WatchEnds, leaves_waiting, WaitsForHeartbeat}
-use Rattle.profile.specs.WatchClaims.{ValuesAsSaid, WritesRefused, HeardAsRaise, SecondNode}
+use Rattle.profile.specs.WatchClaims.{ValuesAsSaid, WritesRefused, SecondNode, WatchAccessed}
 use Rattle.profile.proofs.BoolLaws.{both}
 use Rattle.profile.proofs.ListTheorem.{ran}
 use Rattle.profile.proofs.AppendLaws.{after_append}
-use Rattle.profile.proofs.NodesAgree.{accepted_by_all}
-use Rattle.profile.proofs.StepLaws.{Takes, pass_step, write_step, command_step}
-use Rattle.profile.proofs.WatchLaws.{time_entry, after_number, some_at}
+use Rattle.profile.proofs.NodesAgree.{accepted_by_all, known_of, nodes_agree}
+use Rattle.profile.proofs.StepLaws.{Takes, write_step, command_step, refused_step}
+use Rattle.profile.proofs.WatchLaws.{time_entry, after_number, some_at, some_none, but_n}
 use Rattle.profile.proofs.LengthLaws.{fold_holds}
 use Rattle.profile.proofs.WatchKept.{Stands, step_number, step_kept, receive_kept, request_kept}
 use Rattle.profile.proofs.WatchSound.{all_same, watch_sound}
 use Rattle.profile.proofs.WatchTheorem.{elapsed_own}
+use Rattle.profile.specs.Replies.{read_value, read_reply}
+use Rattle.profile.proofs.ReadLaws.{read_replies}
 
 -- ---- the value of an entry, in numbers
 
@@ -59,19 +60,6 @@ values_as_said node time h l =
     used_is : is_used (65536 * node + time) ≡ not (eqb time 0) && (leb 1 node && leb node 127)
     used_is = ap₂ (λ (n t : ℕ). not (eqb t 0) && (leb 1 n && leb n 127)) node_is time_is
 
--- none of the numbers below k passes
-some_none : (k : ℕ) (p : ℕ → Bool) → ((j : ℕ) → j < k → p j ≡ false) → some k p ≡ false
-some_none zero p h = refl
-some_none (suc k) p h = rw (some_none k p (λ j l. h j (omega arith)), h k (omega arith)) refl
-
--- and none but n
-but_n : (j n : ℕ) (b : Bool) → ((j ≡ n → ⊥) → b ≡ false) → not (eqb j n) && b ≡ false
-but_n j n b h = by (eqb j n) refl
-  where
-    by : (t : Bool) → eqb j n ≡ t → not t && b ≡ false
-    by true e = refl
-    by false e = h (eqb-false j n e)
-
 pub second_node : SecondNode
 unfolding is_second
 second_node n v ws =
@@ -91,50 +79,6 @@ writes_refused has (suc zero) payload h s l = rw (s, l, le-ltb (little_endian pa
 writes_refused has (suc (suc zero)) payload h s l = rw (s, l, le-ltb (little_endian payload) 0 (omega arith)) refl
 writes_refused has (suc (suc (suc zero))) payload h s l = rw (s, l, le-ltb (little_endian payload) 0 (omega arith)) refl
 writes_refused has (suc (suc (suc (suc n)))) payload h s l = absurd (omega arith)
-
--- ---- "The machines hear an expiry as a raise"
-
--- time passes for the watch alone
-pass_unheard : (k : Kind) (i t : ℕ) (m : Machine k) → (k ≡ watch → ⊥) → step k i (pass t) m ≡ m
-pass_unheard node_alone i t m ne = pass_step node_alone i t m
-pass_unheard input_line i t m ne = pass_step input_line i t m
-pass_unheard output_line i t m ne = pass_step output_line i t m
-pass_unheard analogue_input i t m ne = pass_step analogue_input i t m
-pass_unheard analogue_output i t m ne = pass_step analogue_output i t m
-pass_unheard mapping i t m ne = pass_step mapping i t m
-pass_unheard watch i t m ne = absurd (ne refl)
-
-elapsed_other : (ms : Machines) (t : ℕ) (k : Kind) (i : ℕ) → (k ≡ watch → ⊥)
-    → step_all (elapsed t) ms k i ≡ cond (is_due t (ms watch 0).own) (step k i (raise Lost) (ms k i)) (ms k i)
-elapsed_other ms t k i ne = by (is_due t (ms watch 0).own)
-  where
-    passed : step k i (pass t) (ms k i) ≡ ms k i
-    passed = pass_unheard k i t (ms k i) ne
-
-    by : (b : Bool) → fold (step k i) (step k i (pass t) (ms k i)) (cond b (raise Lost ∷ []) [])
-        ≡ cond b (step k i (raise Lost) (ms k i)) (ms k i)
-    by true = ap (step k i (raise Lost)) passed
-    by false = passed
-
-pub heard_as_raise : HeardAsRaise
-unfolding is_due
-heard_as_raise number cs t k i ne =
-    record {
-      due = λ e. at (elapsed t) ∙ heard ∙ chosen true e ∙ sym (at (direct (raise Lost)));
-      not_due = λ e. at (elapsed t) ∙ heard ∙ chosen false e;
-    }
-  where
-    at : (c : Call) → after number (cs ++ c ∷ []) k i ≡ step_all c (after number cs) k i
-    at c = ap (λ (ms : Machines). ms k i) (after_append number cs (c ∷ []))
-
-    heard : step_all (elapsed t) (after number cs) k i
-        ≡ cond (is_due t (after number cs watch 0).own) (step k i (raise Lost) (after number cs k i)) (after number cs k i)
-    heard = elapsed_other (after number cs) t k i ne
-
-    chosen : (b : Bool) → is_due t (after number cs watch 0).own ≡ b
-        → cond (is_due t (after number cs watch 0).own) (step k i (raise Lost) (after number cs k i)) (after number cs k i)
-        ≡ cond b (step k i (raise Lost) (after number cs k i)) (after number cs k i)
-    chosen b e = ap (λ (x : Bool). cond x (step k i (raise Lost) (after number cs k i)) (after number cs k i)) e
 
 -- ---- "Writing an entry stops its watch; either reset empties all four."
 
@@ -186,6 +130,33 @@ module _ (number : ℕ) (cs : List Call) (n : ℕ) (h : n < 4) where
             ∙ ap (λ (y : Machine watch). watch_at y.own n) (command_step watch 0 code to x (taken number cs c z))
             ∙ ap (λ (ws : List Watch). watch_at ws n) (emptied code to r) ∙ all_same 4 n (waiting 0);
       }
+
+-- ---- an entry read, and a write of it that is refused
+
+entry_is : (n : ℕ) → n < 4 → ((entry_of 0x1016 (suc n)).absent ≡ 0) × ((entry_of 0x1016 (suc n)).size ≡ 4)
+unfolding entry_of object_of
+entry_is zero h = (refl, refl)
+entry_is (suc zero) h = (refl, refl)
+entry_is (suc (suc zero)) h = (refl, refl)
+entry_is (suc (suc (suc zero))) h = (refl, refl)
+entry_is (suc (suc (suc (suc n)))) h = absurd (omega arith)
+
+pub watch_accessed : WatchAccessed
+unfolding number_of refusal read_refusal read_value
+watch_accessed number cs n h =
+    let ms = after number cs in
+    let e = entry_is n h in
+    record {
+      read_back = λ running.
+          read_replies ms 0x1016 (suc n) (rw (running, e.0) refl)
+          ∙ ap₂ read_reply (ap (read_value ms) (entry_home n h)) e.1;
+      refused = λ payload ne.
+          let c = write 0x1016 (suc n) payload in
+          next_own_is number cs c n
+          ∙ ap (λ (y : Machine watch). watch_at y.own n)
+          (refused_step watch 0 c (ms watch 0)
+          (λ heard. ap (λ (x : ℕ). eqb x 0) (known_of ms c watch 0 (nodes_agree number cs watch 0) heard) ∙ ne_eqb _ 0 ne));
+    }
 
 pub watch_ends : WatchEnds
 watch_ends number cs n h = ends number cs n h

@@ -2,7 +2,7 @@
 -- or finds it present, if no heartbeat of that node, write of that entry or reset came between."
 -- Assumes nothing.
 use mathlib.Core.Path.{◌≡◌, refl, ap, ◌∙◌, sym, subst}
-use mathlib.Core.Bool.{Bool, true, false, not, cond}
+use mathlib.Core.Bool.{Bool, true, false, not, cond, ◌&&◌}
 use mathlib.Core.List.{List, [], ◌∷◌, ◌++◌, map}
 use Prim.Native.Nat.{ℕ, ◌+◌, ◌≤◌, ◌<◌}
 use native.Mathlib.Nat.{add-zero, zero-add, add_assoc}
@@ -29,6 +29,7 @@ use Rattle.profile.proofs.NodesAgree.{step_node}
 use Rattle.profile.proofs.StepLaws.{heartbeat_step, pass_step, raise_step}
 use Rattle.profile.proofs.LengthLaws.{fold_holds}
 use Rattle.profile.proofs.WatchLaws.{some_at, some_not, heartbeat_entry, time_entry, watches_none, after_number}
+use Rattle.profile.proofs.WatchLaws.{some_none, but_n, short_stays}
 use Rattle.profile.proofs.WatchKept.{Stands, step_number, step_kept, receive_kept, request_kept}
 
 -- the milliseconds of two lists together
@@ -121,9 +122,12 @@ module _ (number n v s : ℕ) (heard : List Call) (t : ℕ) (o : Stands number n
   unfolding is_due
   not_yet_below h =
       let stays = due_here ∙ lt-leb (time_in v) (s + t) h in
+      let other = λ (j : ℕ). not (eqb j n) && expires t (watch_at entries j) in
       record {
-        stays = stays;
-        raises_none = λ others k i. next_node k i false (some_not 4 (λ j. expires t (watch_at entries j)) n others stays);
+        below = rw (ap (λ (w : Watch). w.sum) o.entry, ap (λ (w : Watch). w.value) o.entry) h;
+        raises_none = λ none k i.
+            let others = some_none 4 other (λ j l. but_n j n _ (λ ne. short_stays t (watch_at entries j) (none j l ne))) in
+            next_node k i false (some_not 4 (λ j. expires t (watch_at entries j)) n others stays);
       }
 
   expired_at : n < 4 → time_in v ≤ s + t → Expired number heard n v t

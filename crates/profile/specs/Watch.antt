@@ -29,12 +29,12 @@ take_time t w =
 unfoldable pub is_due : ℕ → List Watch → Bool
 is_due t ws = some 4 (λ n. expires t (watch_at ws n))
 
--- a used entry names the node; a watch is started
+-- a used entry names the node; a watch is started: what the player's remarks ask
 unfoldable pub is_watched : ℕ → List Watch → Bool
 is_watched node ws = some 4 (λ n. watches node (watch_at ws n).value)
 
-unfoldable pub is_running : List Watch → Bool
-is_running ws = some 4 (λ n. (watch_at ws n).started)
+unfoldable pub any_started : List Watch → Bool
+any_started ws = some 4 (λ n. (watch_at ws n).started)
 
 -- "Writing an entry stops its watch": the value v to entry n
 abbrev pub write_watch : ℕ → ℕ → List Watch → List Watch

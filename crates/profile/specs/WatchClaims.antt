@@ -3,15 +3,16 @@
 use Rattle.std.specs.Prelude.{◌≡◌, Bool, true, false, not, cond, ◌||◌, ◌&&◌, List, [], ◌∷◌, ◌++◌, ℕ, suc, ◌+◌, ◌*◌, ◌≤◌, ◌<◌, eqb, ltb, length}
 use Rattle.profile.specs.declared.Cause.TheVariants.{Lost}
 use Rattle.profile.specs.Bytes.{little_endian}
-use Rattle.profile.specs.WatchEntries.{Watch, waiting, watch_at, node_in, time_in, is_used, watches, some, is_second}
+use Rattle.profile.specs.WatchEntries.{Watch, waiting, watch_at, node_in, time_in, is_used, watches, is_second}
 use Rattle.profile.specs.Calls.{Plain, read, write, sample, command, raise, clear, drive, heartbeat, pass, on_watched}
 use Rattle.profile.specs.Calls.{Call, direct, receive, transmit, request, elapsed}
 use Rattle.profile.specs.Server.{asked}
-use Rattle.profile.specs.Watch.{expires}
 use Rattle.profile.specs.Refusals.{Conditions, refusal}
-use Rattle.profile.specs.Machines.{Kind, watch}
+use Rattle.profile.specs.Machines.{Kind, watch, node_alone, count}
 use Rattle.profile.specs.Heard.{number_of}
 use Rattle.profile.specs.Lists.{each, after}
+use Rattle.profile.specs.Nodes.{stopped}
+use Rattle.profile.specs.Replies.{read_reply, reply}
 
 -- entry n of 1016, from 0, after a list of calls on a device with the node number
 abbrev pub entry_after : ℕ → List Call → ℕ → Watch
@@ -19,20 +20,23 @@ entry_after number cs n = watch_at (after number cs watch 0).own n
 
 -- ---- the calls that may come between
 
--- "heartbeat of that node, write of that entry or reset": of a device with the node number, of the node that entry n watches
-abbrev pub disturbs : ℕ → ℕ → ℕ → Plain → Bool
-disturbs number node n (read index sub) = false
-disturbs number node n (write index sub payload) = eqb index 0x1016 && eqb sub (suc n)
-disturbs number node n (sample digital analogue events) = false
-disturbs number node n (command code to) = (eqb to 0 || eqb to number) && (eqb code 129 || eqb code 130)
-disturbs number node n (raise cause) = false
-disturbs number node n (clear cause) = false
-disturbs number node n (drive lines channels) = false
-disturbs number node n (heartbeat from) = eqb from node
--- no call of the device
-disturbs number node n (pass t) = true
+-- "write of that entry or reset": of entry n, of a device with the node number. `pass` is no call of the device, and is none of the others
+abbrev pub ends_watch : ℕ → ℕ → Plain → Bool
+ends_watch number n (read index sub) = false
+ends_watch number n (write index sub payload) = eqb index 0x1016 && eqb sub (suc n)
+ends_watch number n (sample digital analogue events) = false
+ends_watch number n (command code to) = (eqb to 0 || eqb to number) && (eqb code 129 || eqb code 130)
+ends_watch number n (raise cause) = false
+ends_watch number n (clear cause) = false
+ends_watch number n (drive lines channels) = false
+ends_watch number n (heartbeat from) = false
+ends_watch number n (pass t) = true
 
--- a call that is none of which p holds, whatever else it does; a request by the plain call that it is
+-- "heartbeat of that node, write of that entry or reset": of the node that entry n watches
+abbrev pub disturbs : ℕ → ℕ → ℕ → Plain → Bool
+disturbs number node n c = on_watched (ends_watch number n c) (λ from. eqb from node) (λ t. true) c
+
+-- no plain call for which p holds, by itself or as a request; a received frame never writes 1016, which no mapping takes
 abbrev pub is_none : (Plain → Bool) → Call → Bool
 is_none p (direct c) = not (p c)
 is_none p (receive message frame) = true
@@ -57,11 +61,16 @@ time_over (c ∷ cs) = time_of c + time_over cs
 
 -- ---- "After a heartbeat .., the elapsed call that brings the sum to the time raises the loss or finds it present"
 
+-- an entry is started, and its sum reaches or passes its time by t milliseconds more
+pub record Reaches (t : ℕ) (w : Watch) : Type 0 where
+  pub started : w.started ≡ true
+  pub time : time_in w.value ≤ w.sum + t
+
 -- after the calls `heard`, an elapsed call with t milliseconds does not reach the time of entry n
 pub record NotYet (number : ℕ) (heard : List Call) (n t : ℕ) : Type 0 where
-  pub stays : expires t (entry_after number heard n) ≡ false
-  -- so that where it raises the loss, it does for another entry: with none that expires it leaves every node as it was
-  pub raises_none : some 4 (λ j. not (eqb j n) && expires t (watch_at (after number heard watch 0).own j)) ≡ false
+  pub below : (entry_after number heard n).sum + t < time_in (entry_after number heard n).value
+  -- so that where it raises the loss, it does for another entry: where none reaches its time it leaves every node as it was
+  pub raises_none : ((j : ℕ) → j < 4 → (j ≡ n → ⊥) → Reaches t (entry_after number heard j) → ⊥)
       → (k : Kind) (i : ℕ) → (after number (heard ++ elapsed t ∷ []) k i).node ≡ (after number heard k i).node
 
 -- it does reach it
@@ -123,7 +132,7 @@ WatchEnds = (number : ℕ) (cs : List Call) (n : ℕ) → n < 4 → Ends number 
 
 -- a heartbeat of a node that the value v names, a write of entry n, or a reset, of a device with the node number
 abbrev pub touches : ℕ → ℕ → ℕ → Plain → Bool
-touches number v n c = on_watched (disturbs number 0 n c) (λ from. watches from v) (λ t. true) c
+touches number v n c = on_watched (ends_watch number n c) (λ from. watches from v) (λ t. true) c
 
 abbrev pub leaves_waiting : ℕ → ℕ → ℕ → Call → Bool
 leaves_waiting number v n c = is_none (touches number v n) c
@@ -137,15 +146,38 @@ WaitsForHeartbeat =
 
 -- ---- "The machines hear an expiry as a raise, due when the list's own calls make it so by these rules."
 
--- where one of the four expires, and where none does
+-- where one of the four reaches its time, and where none does
 pub record HeardOf (number : ℕ) (cs : List Call) (t : ℕ) (k : Kind) (i : ℕ) : Type 0 where
-  pub due : some 4 (λ n. expires t (entry_after number cs n)) ≡ true
+  pub due : (n : ℕ) → n < 4 → Reaches t (entry_after number cs n)
       → after number (cs ++ elapsed t ∷ []) k i ≡ after number (cs ++ direct (raise Lost) ∷ []) k i
-  pub not_due : some 4 (λ n. expires t (entry_after number cs n)) ≡ false → after number (cs ++ elapsed t ∷ []) k i ≡ after number cs k i
+  pub not_due : ((n : ℕ) → n < 4 → Reaches t (entry_after number cs n) → ⊥)
+      → after number (cs ++ elapsed t ∷ []) k i ≡ after number cs k i
 
 -- every machine but the watch
 abbrev pub HeardAsRaise : Type 0
 HeardAsRaise = (number : ℕ) (cs : List Call) (t : ℕ) (k : Kind) (i : ℕ) → (k ≡ watch → ⊥) → HeardOf number cs t k i
+
+-- "a heartbeat sets its sum to 0, and one from a node no entry names does nothing": no other machine hears one, and so none clears a loss
+pub record HeartbeatOf (number : ℕ) (cs : List Call) (node : ℕ) (k : Kind) (i : ℕ) : Type 0 where
+  pub others : (k ≡ watch → ⊥) → after number (cs ++ direct (heartbeat node) ∷ []) k i ≡ after number cs k i
+  pub unnamed : ((n : ℕ) → n < 4 → watches node (entry_after number cs n).value ≡ false) → i < count k
+      → after number (cs ++ direct (heartbeat node) ∷ []) k i ≡ after number cs k i
+
+abbrev pub HeartbeatHeard : Type 0
+HeartbeatHeard = (number : ℕ) (cs : List Call) (node : ℕ) (k : Kind) (i : ℕ) → HeartbeatOf number cs node k i
+
+-- ---- an entry read, and a write of it that is refused
+
+pub record Accessed (number : ℕ) (cs : List Call) (n : ℕ) : Type 0 where
+  -- unused values too
+  pub read_back : stopped (after number cs node_alone 0).node ≡ false
+      → reply (after number cs) (direct (read 0x1016 (suc n))) ≡ read_reply (entry_after number cs n).value 4
+  -- "A call that the table below or a later request refuses changes no machine": its watch goes on
+  pub refused : (payload : List ℕ) → (number_of (after number cs) (direct (write 0x1016 (suc n) payload)) ≡ 0 → ⊥)
+      → entry_after number (cs ++ direct (write 0x1016 (suc n) payload) ∷ []) n ≡ entry_after number cs n
+
+abbrev pub WatchAccessed : Type 0
+WatchAccessed = (number : ℕ) (cs : List Call) (n : ℕ) → n < 4 → Accessed number cs n
 
 -- ---- the value of an entry, in numbers
 

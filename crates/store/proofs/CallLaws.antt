@@ -37,7 +37,8 @@ use Rattle.store.specs.View.{node_at, parts_of, machines_of}
 use Rattle.store.specs.Promises.{Ensured, Stepped, FreshLeft, Entered, moved}
 use Rattle.store.proofs.KeepLaws.{left_alone, taken, same_state}
 use Rattle.store.proofs.StepLaws.{entered, entered_reset, watch_left}
-use Rattle.store.proofs.OutcomeLaws.{refused_outcome, Sampling, sample_outcome, drive_outcome, heartbeat_outcome, passed_machines}
+use Rattle.store.proofs.OutcomeLaws.{refused_outcome, Sampling, sample_outcome, drive_outcome}
+use Rattle.store.proofs.WatchOutcome.{heartbeat_outcome, passed_machines}
 use Rattle.store.proofs.OutcomeLaws.{raise_outcome, clear_outcome, obeyed_outcome, reset_outcome, other_outcome}
 use Rattle.profile.proofs.ListTheorem.{same_trans, step_same}
 

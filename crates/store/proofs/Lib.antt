@@ -2,6 +2,7 @@
 -- Assumes nothing.
 pub mod MachineLaws
 pub mod OutcomeLaws
+pub mod WatchOutcome
 pub mod KeepLaws
 pub mod StepLaws
 pub mod EntryLaws

@@ -2,7 +2,7 @@
 -- Assumes nothing.
 use mathlib.Core.Path.{◌≡◌, refl, ap, ap₂, ◌∙◌, sym}
 use mathlib.Core.Bool.{Bool, true, false, cond, ◌&&◌}
-use mathlib.Core.List.{List, [], ◌++◌, ◌∷◌, map}
+use mathlib.Core.List.{List, ◌++◌}
 use Prim.Native.Nat.{ℕ, ◌<◌, ◌≤◌}
 use native.Mathlib.Omega.{arith}
 use lib.Dec.{eqb}
@@ -27,24 +27,20 @@ use Rattle.analogue_outputs.specs.Promises as output
 use Rattle.profile.specs.Nodes.{stopped, operational, fault, raise_node, clear_node, addressed, obey_node, command_node}
 use Rattle.profile.specs.Entries.{entry_of, home_of, at_mapping}
 use Rattle.profile.specs.Calls.{Plain, read, write, sample, command, raise, clear, drive, direct, Reply}
-use Rattle.profile.specs.Calls.{heartbeat, pass, on_sample, on_watched}
 use Rattle.profile.specs.Refusals.{Check, first, entry_checks, access_checks, value_checks, held_checks, read_refusal, write_refusal}
 use Rattle.profile.specs.Refusals.{refusal, accepted}
 use Rattle.profile.specs.Machines.{Kind, node_alone, input_line, output_line, analogue_input, analogue_output, mapping, watch, count, Own}
-use Rattle.profile.specs.Machines.{move_own, command_own, clear_own, hears, known, Machine, rules_of, step}
+use Rattle.profile.specs.Machines.{move_own, command_own, clear_own, hears, known}
 use Rattle.profile.specs.Entries.{reads_sources}
-use Rattle.profile.specs.Heard.{fresh_machines, conditions, number_of, step_all, Machines, step_each}
+use Rattle.profile.specs.Heard.{fresh_machines, conditions, number_of, step_all}
 use Rattle.profile.specs.Replies.{read_value, plain, read_reply, sample_reply, drive_reply, line_events, answer, answer_to, refuse, refuse_to}
 use Rattle.profile.specs.Replies.{reply}
 use Rattle.profile.specs.Outcome.{Same, Outcome}
-use Rattle.profile.specs.WatchEntries.{Watch}
-use Rattle.profile.specs.Watch.{take_heartbeat, take_time}
 use Rattle.profile.proofs.ListLaws.{bytes_cong}
 use Rattle.profile.proofs.NodesAgree.{known_of}
 use Rattle.profile.proofs.RefusalLaws.{none_holds, first_skip, first_stop, access_sound}
 use Rattle.profile.proofs.StepLaws.{Takes, refused_step, write_step, read_step, sample_step, command_step, raise_step, clear_step}
-use Rattle.profile.proofs.StepLaws.{drive_step, made, heartbeat_step, pass_step}
-use Rattle.profile.proofs.ListTheorem.{same_trans}
+use Rattle.profile.proofs.StepLaws.{drive_step}
 use Rattle.store.specs.declared.Store.{Store}
 use Rattle.store.specs.View.{Parts, own_of, machines, parts_of}
 use Rattle.store.specs.Promises.{moved, wrote, has_read, held_by}
@@ -99,46 +95,6 @@ unfolding refusal answer
 clear_outcome d r cause s =
     accepted_outcome d r (clear cause) (plain 0) refl
     (λ t. record { at = λ k i h. s.at k i h ∙ sym (clear_step k i cause (machines d k i)) }) refl
-
--- ---- heartbeats, and time that passes
-
--- a call that only the watch hears
-module _ (d : Parts) (c : Plain)
-    (steps : (k : Kind) (i : ℕ) (m : Machine k) → step k i c m
-    ≡ cond ((rules_of k).joins c i) (made k m.node ((rules_of k).joined c i m.node m.own)) m)
-    (unsampled : on_sample false (λ digital analogue. true) c ≡ false)
-    (watched : on_watched false (λ node. true) (λ t. true) c ≡ true) where
-  abbrev left : Parts
-  left = record d { watches = (rules_of watch).joined c 0 d.node d.watches }
-
-  unheard : (k : Kind) (i : ℕ) → (rules_of k).joins c i ≡ false → machines d k i ≡ step k i c (machines d k i)
-  unheard k i h =
-      let m = machines d k i in
-      sym (steps k i m ∙ ap (λ (b : Bool). cond b (made k m.node ((rules_of k).joined c i m.node m.own)) m) h)
-
-  pub watch_alone : Same (machines left) (step_all (direct c) (machines d))
-  watch_alone =
-      by_kind (machines left) (step_all (direct c) (machines d)) (unheard node_alone 0 refl)
-      (λ i h. unheard input_line i unsampled) (λ i h. unheard output_line i refl) (λ i h. unheard analogue_input i unsampled)
-      (λ i h. unheard analogue_output i refl) (λ i h. unheard mapping i refl)
-      (sym (steps watch 0 (machines d watch 0)
-      ∙ ap (λ (b : Bool). cond b (machines left watch 0) (machines d watch 0)) watched))
-
--- with other entries of the watch
-abbrev pub rewatched : List Watch → Parts → Machines
-rewatched ws d = machines (record d { watches = ws })
-
-pub heartbeat_outcome : (d r : Parts) (node : ℕ) → Same (machines r) (rewatched (map (take_heartbeat node) d.watches) d)
-    → Outcome (machines d) (direct (heartbeat node)) (plain 0) (machines r)
-unfolding refusal answer
-heartbeat_outcome d r node s =
-    accepted_outcome d r (heartbeat node) (plain 0) refl
-    (λ t. same_trans s (watch_alone d (heartbeat node) (λ k i m. heartbeat_step k i node m) refl refl)) refl
-
--- the machines after the time of an elapsed call, before any raise
-pub passed_machines : (d r : Parts) (t : ℕ) → Same (machines r) (rewatched (map (take_time t) d.watches) d)
-    → Same (machines r) (step_each (pass t ∷ []) (machines d))
-passed_machines d r t s = same_trans s (watch_alone d (pass t) (λ k i m. pass_step k i t m) refl refl)
 
 -- ---- reads and writes
 

@@ -38,7 +38,8 @@ use Rattle.watches.specs.View.{watches_of, WatchesLeft}
 use Rattle.watches.proofs.ViewLaws.{watches_emptied, watches_kept}
 use Rattle.store.proofs.MachineLaws.{fresh_machines_lem, node_moved, window_wrote, input_wrote, output_wrote, mapping_wrote}
 use Rattle.store.proofs.MachineLaws.{by_kind, same_machine, watch_wrote, setting_wrote, read_same}
-use Rattle.store.proofs.OutcomeLaws.{read_cleared, rewatched}
+use Rattle.store.proofs.OutcomeLaws.{read_cleared}
+use Rattle.store.proofs.WatchOutcome.{with_watches}
 use Rattle.store.proofs.KeepLaws.{node_kept, inputs_kept, outputs_kept, node_stored, node_octets_lem, node_flags_lem, node_normal}
 use Rattle.store.proofs.KeepLaws.{mappings_kept, same_state}
 
@@ -207,12 +208,12 @@ module _ (d : Store) where
     mappings_left : (i : ℕ) → i < 8 → mapping_at deltas i ≡ mapping_at d.deltas i
     mappings_left = mappings_kept d.deltas deltas (λ k h l. s.deltas_kept.low k l)
 
-    pub watch_left : Stepped d (record d { deltas = deltas }) (rewatched ws (parts_of d))
+    pub watch_left : Stepped d (record d { deltas = deltas }) (with_watches ws (parts_of d))
     watch_left =
         let r = record d { deltas = deltas } in
         record {
           machines =
-              by_kind (machines_of r) (rewatched ws (parts_of d)) refl (λ i h. refl) (λ i h. refl)
+              by_kind (machines_of r) (with_watches ws (parts_of d)) refl (λ i h. refl) (λ i h. refl)
               (λ i h. same_machine refl (inputs_left i h)) (λ i h. refl) (λ i h. same_machine refl (mappings_left i h))
               (same_machine refl s.watches);
           normal = same_state d r refl;

@@ -1,5 +1,5 @@
--- Where the four entries of the heartbeat watch stand in the array of deltas: after the mappings, first their values, then for each entry 0
--- while it waits for a first heartbeat, else its sum plus 1.
+-- Where the four entries of the heartbeat watch stand in the array of deltas: after the mappings, first their values, then for each
+-- entry 0 while it waits for a first heartbeat, else its sum plus 1.
 -- Assumes nothing.
 use Rattle.std.specs.Prelude.{◌≡◌, not, List, ℕ, ◌+◌, ◌-◌, eqb, get_or}
 use Rattle.profile.specs.Bytes.{list_from}

@@ -4,7 +4,7 @@ ghost use Rattle.profile.specs.Watch as machine;
 ghost use Rattle.profile.specs.WatchEntries as entry;
 ghost use Rattle.watches.specs.View.{entry_at, watches_of};
 
-use crate::{COUNTS, VALUES, expires, watches};
+use crate::{COUNTS, VALUES, WAITING, expires, watches};
 use channels::fields::Deltas;
 
 // A used entry names the node.
@@ -26,9 +26,9 @@ fn is_named(deltas: &Deltas, n: usize, node: u8) -> bool
 }
 
 // A watch is started.
-#[tactic(auto, unfolding(profile::specs::Watch::is_running))]
-pub fn is_running(deltas: &Deltas) -> bool
-    ensures { result ≡ machine.is_running (watches_of deltas.now) }
+#[tactic(auto, unfolding(profile::specs::Watch::any_started))]
+pub fn any_started(deltas: &Deltas) -> bool
+    ensures { result ≡ machine.any_started (watches_of deltas.now) }
 {
     is_started(deltas, 0) | is_started(deltas, 1) | is_started(deltas, 2) | is_started(deltas, 3)
 }
@@ -37,7 +37,7 @@ fn is_started(deltas: &Deltas, n: usize) -> bool
     requires { n < 4 }
     ensures { result ≡ (entry_at deltas.now n).started }
 {
-    deltas[COUNTS + n] != 0
+    deltas[COUNTS + n] != WAITING
 }
 
 // An entry expires by so many milliseconds more.

@@ -15,7 +15,7 @@ use profile::refusals::Refusal;
 // What a heartbeat and time that passes depend on.
 pub mod conditions;
 
-// In deltas, after the mappings.
+// In deltas, where the mappings end.
 const VALUES: usize = 120;
 
 // Of each entry 0 while it waits for a first heartbeat, else its sum plus 1.
