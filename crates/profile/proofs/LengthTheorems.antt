@@ -9,7 +9,6 @@ use lib.Dec.{eqb, ltb, leb}
 use lib.ListN.{length, take, drop}
 use borrow.Author.Tests.{eqb-true, ltb-true, ltb-false, leb-false}
 use Rattle.profile.specs.declared.Node.{Node}
-use Rattle.profile.specs.declared.Cause.TheVariants.{Lost}
 use Rattle.profile.specs.declared.Home.TheVariants.{Device}
 use Rattle.profile.specs.Bits.{gather}
 use Rattle.profile.specs.Bytes.{little_endian, line_bit}

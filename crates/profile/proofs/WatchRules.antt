@@ -1,7 +1,7 @@
 -- Document 02, Item 5: what ends a watch, what alone starts one, an entry read and a write of it refused, and the values of 1016 in
 -- numbers.
 -- Assumes nothing.
-use mathlib.Core.Path.{◌≡◌, refl, ap, ap₂, ◌∙◌}
+use mathlib.Core.Path.{◌≡◌, refl, ap, ap₂, ◌∙◌, subst}
 use mathlib.Core.Bool.{Bool, true, false, not, cond, ◌||◌, ◌&&◌, false≢true, and-false}
 use mathlib.Core.List.{List, [], ◌∷◌, ◌++◌}
 use Prim.Native.Nat.{ℕ, zero, suc, ◌+◌, ◌*◌, ◌<◌}
@@ -20,7 +20,7 @@ use Rattle.profile.specs.Calls.{Call, direct, receive, transmit, request, elapse
 use Rattle.profile.specs.Refusals.{refusal, write_refusal, watch_checks, read_refusal}
 use Rattle.profile.specs.Machines.{watch, Machine}
 use Rattle.profile.specs.Machines.{command_own, step}
-use Rattle.profile.specs.Heard.{Machines, number_of, heard_as, step_all}
+use Rattle.profile.specs.Heard.{Machines, number_of, step_all}
 use Rattle.profile.specs.Lists.{each, after}
 use Rattle.profile.specs.WatchClaims.{entry_after, Ends, WatchEnds, leaves_waiting, WaitsForHeartbeat}
 use Rattle.profile.specs.WatchClaims.{ValuesAsSaid, WritesRefused, SecondNode, WatchAccessed}
@@ -29,11 +29,10 @@ use Rattle.profile.proofs.ListTheorem.{ran}
 use Rattle.profile.proofs.AppendLaws.{after_append}
 use Rattle.profile.proofs.NodesAgree.{accepted_by_all, known_of, nodes_agree}
 use Rattle.profile.proofs.StepLaws.{Takes, write_step, command_step, refused_step}
-use Rattle.profile.proofs.WatchLaws.{time_entry, after_number, some_at, some_none, but_n}
-use Rattle.profile.proofs.LengthLaws.{fold_holds}
-use Rattle.profile.proofs.WatchKept.{Stands, step_number, step_kept, receive_kept, request_kept}
+use Rattle.profile.proofs.WatchLaws.{after_number, some_at, some_none, but_n}
+use Rattle.profile.proofs.WatchKept.{Stands, step_kept, receive_kept, request_kept}
 use Rattle.profile.proofs.WatchSound.{all_same, watch_sound}
-use Rattle.profile.proofs.WatchTheorem.{elapsed_own}
+use Rattle.profile.proofs.WatchTheorem.{elapsed_stands}
 use Rattle.profile.specs.Replies.{read_value, read_reply}
 use Rattle.profile.proofs.ReadLaws.{read_replies}
 
@@ -180,13 +179,7 @@ module _ (number n : ℕ) (w : Watch) (e : w.started ≡ false) where
   call_waits (transmit message frame) ms h s = s
   call_waits (request frame reply) ms h s = request_kept number n w ms frame reply h s
   call_waits (elapsed t) ms h s =
-      record {
-        numbered = fold_holds (λ (x : Machine watch). x.node.number ≡ number) (step watch 0) (step_number number)
-            (heard_as ms (elapsed t)) (ms watch 0) s.numbered;
-        entry =
-            ap (λ (ws : List Watch). watch_at ws n) (elapsed_own ms t) ∙ time_entry t (ms watch 0).own n ∙ ap (take_time t) s.entry
-            ∙ time_waits t w e;
-      }
+      subst (λ (x : Watch). Stands number n x (step_all (elapsed t) ms watch 0)) (time_waits t w e) (elapsed_stands number n w ms t s)
 
   run_waits : (cs : List Call) (ms : Machines) → each (leaves_waiting number w.value n) cs ≡ true → Waits ms → Waits (ran ms cs)
   run_waits [] ms h s = s

@@ -1,6 +1,6 @@
 -- Document 02, Item 5: after any list every started entry is used with its sum below its time, and no two used entries are for one node.
 -- Assumes nothing.
-use mathlib.Core.Path.{◌≡◌, refl, ap, ◌∙◌, sym, subst}
+use mathlib.Core.Path.{◌≡◌, refl, ap, ◌∙◌, sym, subst, ap₂}
 use mathlib.Core.Bool.{Bool, true, false, not, cond, ◌&&◌, false≢true}
 use mathlib.Core.List.{List, map}
 use Prim.Native.Nat.{ℕ, zero, suc, ◌+◌, ◌<◌}
@@ -149,7 +149,7 @@ module _ (j v : ℕ) (ws : List Watch) (s : SoundWatch ws) (h : j < 4) (only : i
   none_other node n w q ne =
       let found = some_at 4 (λ k. not (eqb k j) && watches (node_in v) (watch_at ws k).value) n (within node n q)
       (rw (ne, (names node v w).node_is) q) in
-      false≢true (sym only ∙ rw ((names node v w).used, found) refl)
+      false≢true (sym only ∙ ap₂ (λ (a b : Bool). a && b) (names node v w).used found)
 
   written_apart : Apart (write_watch j v ws)
   written_apart node m n p q = by (eqb m j) (eqb n j) refl refl (rw (written_at m) at p) (rw (written_at n) at q)

@@ -26,7 +26,7 @@ use Rattle.profile.proofs.BoolLaws.{both, picked}
 use Rattle.profile.proofs.ListTheorem.{ran}
 use Rattle.profile.proofs.AppendLaws.{after_append, each_first, each_weaker}
 use Rattle.profile.proofs.NodesAgree.{step_node}
-use Rattle.profile.proofs.StepLaws.{heartbeat_step, pass_step, raise_step}
+use Rattle.profile.proofs.StepLaws.{of_heartbeat, of_pass, watch_hears, raise_step}
 use Rattle.profile.proofs.LengthLaws.{fold_holds}
 use Rattle.profile.proofs.WatchLaws.{some_at, some_not, heartbeat_entry, time_entry, watches_none, after_number}
 use Rattle.profile.proofs.WatchLaws.{some_none, but_n, short_stays}
@@ -52,7 +52,17 @@ elapsed_own ms t =
     Adds cs = (fold (step watch 0) (step watch 0 (pass t) (ms watch 0)) cs).own ≡ map (take_time t) (ms watch 0).own
 
     passed : (step watch 0 (pass t) (ms watch 0)).own ≡ map (take_time t) (ms watch 0).own
-    passed = ap own (pass_step watch 0 t (ms watch 0))
+    passed = ap own (watch_hears (of_pass t) (ms watch 0))
+
+-- so entry n takes them
+pub elapsed_stands : (number n : ℕ) (w : Watch) (ms : Machines) (t : ℕ) → Stands number n w (ms watch 0)
+    → Stands number n (take_time t w) (step_all (elapsed t) ms watch 0)
+elapsed_stands number n w ms t s =
+    record {
+      numbered = fold_holds (λ (x : Machine watch). x.node.number ≡ number) (step watch 0) (step_number number)
+          (heard_as ms (elapsed t)) (ms watch 0) s.numbered;
+      entry = ap (λ (ws : List Watch). watch_at ws n) (elapsed_own ms t) ∙ time_entry t (ms watch 0).own n ∙ ap (take_time t) s.entry;
+    }
 
 -- "raises communication loss in that very call", in every machine's node, and does nothing else to a node
 elapsed_node : (ms : Machines) (t : ℕ) (k : Kind) (i : ℕ)
@@ -107,8 +117,7 @@ module _ (number n v s : ℕ) (heard : List Call) (t : ℕ) (o : Stands number n
   next_entry : entry_after number (heard ++ elapsed t ∷ []) n ≡ cond (leb (time_in v) (s + t)) (waiting v) (started_at v (s + t))
   next_entry =
       ap (λ (ms : Machines). watch_at (ms watch 0).own n) (after_append number heard (elapsed t ∷ []))
-      ∙ ap (λ (ws : List Watch). watch_at ws n) (elapsed_own (after number heard) t) ∙ time_entry t entries n
-      ∙ ap (take_time t) o.entry ∙ started_time v s t
+      ∙ (elapsed_stands number n (started_at v s) (after number heard) t o).entry ∙ started_time v s t
 
   -- every machine's node, by whether one of the four expires
   next_node : (k : Kind) (i : ℕ) (b : Bool) → is_due t entries ≡ b → (after number (heard ++ elapsed t ∷ []) k i).node
@@ -161,13 +170,9 @@ module _ (number node n v : ℕ) (w : watches node v ≡ true) where
   -- milliseconds that do not bring it to its time
   time_kept : (t s : ℕ) (ms : Machines) → s + t < time_in v → On s (ms watch 0) → On (s + t) (step_all (elapsed t) ms watch 0)
   time_kept t s ms h o =
-      record {
-        numbered = fold_holds (λ (x : Machine watch). x.node.number ≡ number) (step watch 0) (step_number number)
-            (heard_as ms (elapsed t)) (ms watch 0) o.numbered;
-        entry =
-            ap (λ (ws : List Watch). watch_at ws n) (elapsed_own ms t) ∙ time_entry t (ms watch 0).own n ∙ ap (take_time t) o.entry
-            ∙ started_time v s t ∙ ap (λ (b : Bool). cond b (waiting v) (started_at v (s + t))) (lt-leb (time_in v) (s + t) h);
-      }
+      let same = started_time v s t ∙ ap (λ (b : Bool). cond b (waiting v) (started_at v (s + t))) (lt-leb (time_in v) (s + t) h) in
+      subst (λ (w : Watch). Stands number n w (step_all (elapsed t) ms watch 0)) same
+      (elapsed_stands number n (started_at v s) ms t o)
 
   -- nor does any call that leaves it, but for the milliseconds
   call_kept : (c : Call) (s : ℕ) (ms : Machines) → leaves_watch number node n c ≡ true → s + time_of c < time_in v
@@ -205,7 +210,7 @@ module _ (number : ℕ) (before : List Call) (node n v : ℕ) (value_is : (entry
       record {
         numbered = step_number number (heartbeat node) x (after_number number before);
         entry =
-            ap (λ (m : Machine watch). watch_at m.own n) (heartbeat_step watch 0 node x) ∙ heartbeat_entry node x.own n
+            ap (λ (m : Machine watch). watch_at m.own n) (watch_hears (of_heartbeat node) x) ∙ heartbeat_entry node x.own n
             ∙ heartbeat_starts node v (entry_after number before n) value_is w;
       }
 

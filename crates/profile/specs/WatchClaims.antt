@@ -8,7 +8,7 @@ use Rattle.profile.specs.Calls.{Plain, read, write, sample, command, raise, clea
 use Rattle.profile.specs.Calls.{Call, direct, receive, transmit, request, elapsed}
 use Rattle.profile.specs.Server.{asked}
 use Rattle.profile.specs.Refusals.{Conditions, refusal}
-use Rattle.profile.specs.Machines.{Kind, watch, node_alone, count}
+use Rattle.profile.specs.Machines.{Kind, node_alone, watch}
 use Rattle.profile.specs.Heard.{number_of}
 use Rattle.profile.specs.Lists.{each, after}
 use Rattle.profile.specs.Nodes.{stopped}
@@ -157,14 +157,14 @@ pub record HeardOf (number : ℕ) (cs : List Call) (t : ℕ) (k : Kind) (i : ℕ
 abbrev pub HeardAsRaise : Type 0
 HeardAsRaise = (number : ℕ) (cs : List Call) (t : ℕ) (k : Kind) (i : ℕ) → (k ≡ watch → ⊥) → HeardOf number cs t k i
 
--- "a heartbeat sets its sum to 0, and one from a node no entry names does nothing": no other machine hears one, and so none clears a loss
-pub record HeartbeatOf (number : ℕ) (cs : List Call) (node : ℕ) (k : Kind) (i : ℕ) : Type 0 where
-  pub others : (k ≡ watch → ⊥) → after number (cs ++ direct (heartbeat node) ∷ []) k i ≡ after number cs k i
-  pub unnamed : ((n : ℕ) → n < 4 → watches node (entry_after number cs n).value ≡ false) → i < count k
-      → after number (cs ++ direct (heartbeat node) ∷ []) k i ≡ after number cs k i
+-- no machine but the watch hears a heartbeat, and so none clears a loss; "one from a node no entry names does nothing"
+pub record HeartbeatOf (number : ℕ) (cs : List Call) (node : ℕ) : Type 0 where
+  pub others : (k : Kind) (i : ℕ) → (k ≡ watch → ⊥) → after number (cs ++ direct (heartbeat node) ∷ []) k i ≡ after number cs k i
+  pub unnamed : ((n : ℕ) → n < 4 → watches node (entry_after number cs n).value ≡ false)
+      → after number (cs ++ direct (heartbeat node) ∷ []) watch 0 ≡ after number cs watch 0
 
 abbrev pub HeartbeatHeard : Type 0
-HeartbeatHeard = (number : ℕ) (cs : List Call) (node : ℕ) (k : Kind) (i : ℕ) → HeartbeatOf number cs node k i
+HeartbeatHeard = (number : ℕ) (cs : List Call) (node : ℕ) → HeartbeatOf number cs node
 
 -- ---- an entry read, and a write of it that is refused
 
