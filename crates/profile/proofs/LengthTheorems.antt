@@ -37,7 +37,7 @@ use Rattle.profile.proofs.MappedLaws.{moving}
 use Rattle.profile.proofs.ReplyLaws.{heard_cong}
 use Rattle.profile.proofs.ListTheorem.{ran, after_spoken, after_ran}
 use Rattle.profile.proofs.NodesAgree.{step_node}
-use Rattle.profile.proofs.StepLaws.{cond_same, made}
+use Rattle.profile.proofs.StepLaws.{cond_same, step_holds, made}
 use Rattle.profile.proofs.EntryTests.{at_holds}
 use Rattle.profile.proofs.LengthLaws.{step_length, Bounded, step_bounded, fold_holds}
 
@@ -63,10 +63,8 @@ module _ (i n : ℕ) (m : Machine input_line) (b : Bounded m.node.length) (h : m
 
   -- no other call raises a count
   other : (c : Plain) → Low (next input_line i c m) → Counted n n (step input_line i c m)
-  unfolding step hear
   other c p =
-      let low : Low (step input_line i c m) =
-      picked Low (hears input_line i c) _ m (λ e. picked Low (accepted (known input_line m) c) _ m (λ e. p) (λ e. h)) (λ e. h) in
+      let low : Low (step input_line i c m) = step_holds Low i c m h (λ e t. p) in
       record { last = low; now = omega arith }
 
   -- a sample s, accepted or refused

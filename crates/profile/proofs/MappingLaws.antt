@@ -21,7 +21,7 @@ use Rattle.profile.specs.Calls.{Plain, read, write, sample, command, raise, clea
 use Rattle.profile.specs.Refusals.{first, mapping_checks, accepted, Holdings, held_checks}
 use Rattle.profile.specs.NodeAlone.{writes_setting, device_wide}
 use Rattle.profile.specs.Machines.{mapping, Machine, fresh_machine, entry_names, call_names, hears, write_own}
-use Rattle.profile.specs.Machines.{next_own, next, known, hear, step, rules_of}
+use Rattle.profile.specs.Machines.{next_own, next, known, step, rules_of}
 use Rattle.profile.specs.Heard.{fresh_machines, fold, spoken}
 use Rattle.profile.specs.Lists.{after}
 use Rattle.profile.proofs.BoolLaws.{neither}
@@ -29,7 +29,7 @@ use Rattle.profile.proofs.EntryRanges.{InRange, in_range}
 use Rattle.profile.proofs.MappedLaws.{moving, wide, left_both, output_index}
 use Rattle.profile.proofs.RefusalLaws.{none_holds, write_passed}
 use Rattle.profile.proofs.ListTheorem.{after_spoken}
-use Rattle.profile.proofs.StepLaws.{Takes, cond_same, command_step}
+use Rattle.profile.proofs.StepLaws.{Takes, cond_same, step_holds, command_step}
 
 -- "An entry of 0 may be written", and one that is "absent, not mappable or of another length" may not
 abbrev pub Entered : ℕ → ℕ → Type 0
@@ -127,14 +127,7 @@ next_sound i (heartbeat node) x h t s = s
 next_sound i (pass t) x h u s = s
 
 step_sound : (i : ℕ) (c : Plain) (x : Machine mapping) → SoundMapping i x.own → SoundMapping i (step mapping i c x).own
-unfolding step hear
-step_sound i c x s = by (hears mapping i c) (accepted (known mapping x) c) refl refl
-  where
-    by : (a b : Bool) → hears mapping i c ≡ a → accepted (known mapping x) c ≡ b
-        → SoundMapping i (cond a (cond b (next mapping i c x) x) x).own
-    by true true h t = next_sound i c x h t s
-    by true false h t = s
-    by false b h t = s
+step_sound i c x s = step_holds (λ (m : Machine mapping). SoundMapping i m.own) i c x s (λ h t. next_sound i c x h t s)
 
 fold_sound : (i : ℕ) (cs : List Plain) (x : Machine mapping) → SoundMapping i x.own → SoundMapping i (fold (step mapping i) x cs).own
 fold_sound i [] x s = s

@@ -15,15 +15,14 @@ use Rattle.profile.specs.WatchEntries.{Watch, watch_at, watches}
 use Rattle.profile.specs.Watch.{take_heartbeat}
 use Rattle.profile.specs.Calls.{Plain, read, write, sample, command, raise, clear, drive, heartbeat, pass}
 use Rattle.profile.specs.Calls.{receive, request}
-use Rattle.profile.specs.Refusals.{accepted}
 use Rattle.profile.specs.Server.{asked}
-use Rattle.profile.specs.Machines.{watch, Machine, hears, next_own, next, known, hear, step}
+use Rattle.profile.specs.Machines.{watch, Machine, next_own, next, step}
 use Rattle.profile.specs.Heard.{Machines, fold, heard_as, step_all}
 use Rattle.profile.specs.Lists.{each}
 use Rattle.profile.specs.WatchClaims.{touches}
-use Rattle.profile.proofs.BoolLaws.{both, picked}
+use Rattle.profile.proofs.BoolLaws.{both}
 use Rattle.profile.proofs.NodesAgree.{step_node}
-use Rattle.profile.proofs.StepLaws.{cond_same}
+use Rattle.profile.proofs.StepLaws.{cond_same, step_holds}
 use Rattle.profile.proofs.WatchLaws.{heartbeat_entry, unnamed_entry, receive_passes, request_passes, node_number}
 
 -- entry n, in the watch of a device with the node number
@@ -72,17 +71,11 @@ module _ (number n : ℕ) (w : Watch) where
   next_kept (pass t) x h s = absurd (false≢true h)
 
   pub step_kept : (c : Plain) (x : Machine watch) → Leaves c ≡ true → Stands number n w x → Stands number n w (step watch 0 c x)
-  unfolding step hear
   step_kept c x h s =
       record {
         numbered = step_number number c x s.numbered;
-        entry =
-            picked Same (hears watch 0 c) _ x
-            (λ e. picked Same (accepted (known watch x) c) _ x (λ t. next_kept c x h s) (λ t. s.entry)) (λ e. s.entry);
+        entry = step_holds (λ (y : Machine watch). watch_at y.own n ≡ w) 0 c x s.entry (λ e t. next_kept c x h s);
       }
-    where
-      Same : Machine watch → Type 0
-      Same y = watch_at y.own n ≡ w
 
   fold_kept : (cs : List Plain) (x : Machine watch) → each Leaves cs ≡ true → Stands number n w x
       → Stands number n w (fold (step watch 0) x cs)

@@ -20,7 +20,7 @@ use Rattle.profile.specs.WatchEntries.{Watch, waiting, empty_watches, watch_at, 
 use Rattle.profile.specs.Watch.{take_heartbeat, expires, take_time, write_watch}
 use Rattle.profile.specs.Calls.{Plain, read, write, sample, command, raise, clear, drive, heartbeat, pass, Call}
 use Rattle.profile.specs.Refusals.{first, watch_checks, accepted, held_checks}
-use Rattle.profile.specs.Machines.{watch, Machine, fresh_machine, hears, write_own, next_own, next, known, hear, step, rules_of}
+use Rattle.profile.specs.Machines.{watch, Machine, fresh_machine, write_own, next_own, next, known, step, rules_of}
 use Rattle.profile.specs.Heard.{fresh_machines, spoken}
 use Rattle.profile.specs.Lists.{after}
 use Rattle.profile.specs.WatchClaims.{Below, SumsBelow, NoNodeTwice}
@@ -28,7 +28,7 @@ use Rattle.profile.proofs.BoolLaws.{both, picked}
 use Rattle.profile.proofs.EntryRanges.{InRange, in_range}
 use Rattle.profile.proofs.RefusalLaws.{none_holds, write_passed}
 use Rattle.profile.proofs.ListTheorem.{after_spoken}
-use Rattle.profile.proofs.StepLaws.{cond_same}
+use Rattle.profile.proofs.StepLaws.{cond_same, step_holds}
 use Rattle.profile.proofs.LengthLaws.{fold_holds}
 use Rattle.profile.proofs.WatchLaws.{some_at, heartbeat_entry, time_entry, other_entry, names}
 
@@ -204,12 +204,7 @@ next_sound i (heartbeat node) x t s =
 next_sound i (pass u) x t s = mapped_sound (take_time u) x.own (time_entry u x.own) (time_follows u) s
 
 step_sound : (i : ℕ) (c : Plain) (x : Machine watch) → SoundWatch x.own → SoundWatch (step watch i c x).own
-unfolding step hear
-step_sound i c x s =
-    picked Holds (hears watch i c) _ x (λ e. picked Holds (accepted (known watch x) c) _ x (λ t. next_sound i c x t s) (λ t. s)) (λ e. s)
-  where
-    Holds : Machine watch → Type 0
-    Holds m = SoundWatch m.own
+step_sound i c x s = step_holds (λ (m : Machine watch). SoundWatch m.own) i c x s (λ h t. next_sound i c x t s)
 
 pub watch_sound : (number : ℕ) (cs : List Call) → SoundWatch (after number cs watch 0).own
 watch_sound number cs =
