@@ -25,6 +25,9 @@ mod lists;
 #[path = "../compare/lists_entries.rs"]
 mod lists_entries;
 #[allow(dead_code)]
+#[path = "../compare/lists_faults.rs"]
+mod lists_faults;
+#[allow(dead_code)]
 #[path = "../compare/lists_filters.rs"]
 mod lists_filters;
 #[allow(dead_code)]

@@ -1,4 +1,4 @@
-//! Document 01 and Items 1 to 3 and 5 of document 02 for speed: rows of 128 bits, the device changed in
+//! Document 01 and Items 1 to 3, 5 and 6 of document 02 for speed: rows of 128 bits, the device changed in
 //! place, an index found by one load, driven outputs computed when they are asked for.
 
 use crate::calls::{Answer, Cause, Machine, Message};
@@ -100,8 +100,9 @@ impl Device {
     fn hold(&mut self) {
         for w in 0..2 {
             let mode = self.rows[ERROR_MODE][w];
-            let running = self.rows[OUTPUT][w] ^ self.rows[OUTPUT_POLARITY][w];
-            self.rows[HELD][w] = (self.rows[ERROR_VALUE][w] & mode) | (running & !mode);
+            // The polarity of this moment, for an error value as for a line that stays.
+            let taken = (self.rows[ERROR_VALUE][w] & mode) | (self.rows[OUTPUT][w] & !mode);
+            self.rows[HELD][w] = taken ^ self.rows[OUTPUT_POLARITY][w];
         }
         for n in 0..8 {
             self.held[n] = if self.modes >> n & 1 == 1 { self.errors[n] } else { self.kept[n] };

@@ -2,6 +2,7 @@
 //! that most calls do something. The same seed makes the same list.
 
 use crate::calls::{Call, Cause, Lent};
+use crate::lists_faults::Faults;
 use crate::lists_filters::Run;
 use crate::lists_mappings::Plans;
 use crate::lists_objects::{objects, Object, DEVICE_WIDE_OBJECTS, DIGITAL_OBJECTS};
@@ -43,6 +44,7 @@ pub struct Source {
     pub plans: Plans,
     pub run: Run,
     pub watches: Watches,
+    pub faults: Faults,
     pub objects: Vec<Object>,
     number: u8,
     /// Commands mostly start the node, so that mappings last; in other lists any command comes as often.
@@ -61,6 +63,7 @@ impl Source {
             plans: Plans::new(),
             run: Run::none(),
             watches: Watches::none(),
+            faults: Faults::none(),
             objects: objects(),
             number,
             steady,
@@ -80,6 +83,7 @@ impl Source {
         }
         let call = self.call_without_server();
         self.watches.take(&call, self.number);
+        self.faults.take(&call, self.number);
         self.perhaps_requested(call)
     }
 
@@ -94,6 +98,9 @@ impl Source {
         if self.watches.are_busy() && self.random.chance(80) {
             return self.watch_call();
         }
+        if self.faults.are_busy() && self.random.chance(80) {
+            return self.fault_call();
+        }
         match self.random.below(100) {
             0..22 => self.write(),
             22..36 => self.read(),
@@ -104,6 +111,7 @@ impl Source {
             65..71 => self.drive(),
             71..74 if !self.run.is_on() => self.filter_call(),
             74..82 => self.watch_call(),
+            82 => self.fault_call(),
             _ => self.mapping_call(),
         }
     }

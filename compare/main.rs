@@ -13,6 +13,7 @@ mod fast_watch;
 mod library;
 mod lists;
 mod lists_entries;
+mod lists_faults;
 mod lists_filters;
 mod lists_mappings;
 mod lists_objects;
@@ -31,6 +32,7 @@ mod read_back;
 mod sweep_requests;
 mod sweep_watch;
 mod tally;
+mod tally_faults;
 mod tally_watch;
 
 use calls::{Answer, Call, Lent, Machine};
@@ -40,6 +42,7 @@ use read_back::{read_back, Told};
 use sweep_requests::sweep_requests;
 use sweep_watch::sweep_watch;
 use tally::Tally;
+use tally_faults::Outputs;
 use tally_watch::Met;
 
 const CALLS_OF_A_LIST: u64 = 1000;
@@ -125,13 +128,16 @@ fn play_list(seed: u64, calls: u64, objects: &[Object], tally: &mut Tally) {
     let mut source = Source::new(seed);
     let mut pauses = Random::new(!seed);
     let mut devices = All::create(source.number());
+    tally.faults.start_a_list();
     for at in 0..calls {
         let call = source.call();
+        let before = Outputs::of(&devices.paper);
         if let Call::Elapsed { milliseconds } = call {
             tally.watch.take(milliseconds, &devices.met());
         }
         let (played, answer) = devices.play(call, (seed, at));
         tally.take(&played, &answer);
+        tally.faults.take(&played, &answer, &before, &Outputs::of(&devices.paper));
         if at + 1 == calls || pauses.below(400) == 0 {
             devices.read_back(objects, (seed, at));
             tally.read_backs += 1;

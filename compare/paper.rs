@@ -1,4 +1,4 @@
-//! Document 01 and Items 1 to 3 and 5 of document 02 line by line: a machine for each line and each channel,
+//! Document 01 and Items 1 to 3, 5 and 6 of document 02 line by line: a machine for each line and each channel,
 //! which takes every call by itself, as the paper reads. Slow on purpose.
 
 use crate::calls::{Answer, Cause, Machine, Message};

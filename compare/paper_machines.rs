@@ -1,5 +1,5 @@
-//! The machines of document 01 and Item 2 of document 02, each with its own settings and its own copy of the
-//! node's state.
+//! The machines of document 01 and Items 2 and 6 of document 02, each with its own settings and its own copy of
+//! the node's state.
 
 use crate::paper_node::{DeviceWide, Node, State};
 
@@ -99,8 +99,9 @@ impl DigitalOutput {
             *self = DigitalOutput::fresh(self.node.number);
             return;
         }
+        // "A line that takes its error value when fault begins shall drive it inverted where its polarity is 1."
         if !before && self.node.in_fault() && self.error_mode {
-            self.driven = self.error_value;
+            self.driven = self.error_value != self.polarity;
         }
         self.follow();
     }

@@ -7,6 +7,7 @@ mod calls;
 #[allow(dead_code)]
 mod lists;
 mod lists_entries;
+mod lists_faults;
 mod lists_filters;
 mod lists_mappings;
 mod lists_objects;

@@ -3,6 +3,7 @@
 use std::fmt;
 
 use crate::calls::{Answer, Call};
+use crate::tally_faults::FaultTally;
 use crate::tally_watch::WatchTally;
 
 #[derive(Default)]
@@ -26,6 +27,7 @@ pub struct Tally {
     taken: u64,
     heartbeats: u64,
     pub watch: WatchTally,
+    pub faults: FaultTally,
 }
 
 impl Tally {
@@ -90,11 +92,11 @@ fn is_mapping_entry(entry: (u16, u8)) -> bool {
 impl fmt::Display for Tally {
     fn fmt(&self, f: &mut fmt::Formatter<'_>) -> fmt::Result {
         let Tally { accepted, events, mapped, sent, requests, aborted, without_reply, read_backs, .. } = self;
-        let Tally { watched, taken, heartbeats, watch, .. } = self;
+        let Tally { watched, taken, heartbeats, watch, faults, .. } = self;
         write!(f, "{accepted} accepted, {events} events, {mapped} entries mapped, {sent} bytes sent, ")?;
         write!(f, "{requests} requests ({aborted} aborted, {without_reply} without a reply), ")?;
         write!(f, "{watched} entries of 1016 written, {taken} refused for a node twice, ")?;
-        write!(f, "{heartbeats} heartbeats, {watch}, ")?;
+        write!(f, "{heartbeats} heartbeats, {watch}, {faults}, ")?;
         write!(f, "{read_backs} read-backs of every entry")
     }
 }

@@ -28,7 +28,7 @@ static const setting SET_UP[] = {
     {0x6421, 1, 0x04, 1},   /* channel 1 reports a move by more than .. */
     {0x6426, 1, 10, 4},     /* .. 10 */
     {0x6200, 1, 0x0F, 1},   /* outputs 1 to 4 are on */
-    {0x6202, 1, 0x80, 1},   /* output 8 is inverted */
+    {0x6202, 1, 0x80, 1},   /* output 8 is inverted, also where it takes its error value, 0 */
     {0x6206, 1, 0xFE, 1},   /* output 1 holds its state in a fault */
     {0x6207, 1, 0x10, 1},   /* output 5 is on in a fault */
     {0x6411, 1, 1000, 2},   /* analogue output 1 .. */

@@ -458,20 +458,21 @@ static uint8_t driven_byte(io401_device *device)
     return lines[0];
 }
 
-/* The paper's bench case 4: an output written in a fault is driven after it. */
-static void try_fault(void)
+/* The papers' bench case 4 with a polarity written first: an output written in a fault is driven after it. */
+static void try_fault(uint8_t polarity, uint8_t before, uint8_t in_fault, uint8_t after)
 {
     io401_device device;
     io401_create(&device, NODE);
+    io401_write_value(&device, 0x6202, 1, polarity, 1);
     io401_write_value(&device, 0x6207, 1, 0x02, 1);
     io401_write_value(&device, 0x6200, 1, 0x01, 1);
-    expect(driven_byte(&device) == 0x01, "6200:1 = 01 does not drive line 1");
+    expect(driven_byte(&device) == before, "what was written before a fault is not driven");
     io401_raise(&device, IO401_INTERNAL_FAILURE);
     io401_write_value(&device, 0x6200, 1, 0x04, 1);
-    expect(driven_byte(&device) == 0x02, "a fault does not drive the error value");
+    expect(driven_byte(&device) == in_fault, "a fault does not drive the error value");
     expect(io401_read(&device, 0x6200, 1).value == 0x04, "6200:1 does not read what was written in a fault");
     io401_clear(&device, IO401_INTERNAL_FAILURE);
-    expect(driven_byte(&device) == 0x04, "the end of a fault does not drive what was written in it");
+    expect(driven_byte(&device) == after, "the end of a fault does not drive what was written in it");
 }
 
 /* The paper's bench case 9: events at 11 and 22, and their source bit is read once. */
@@ -537,7 +538,8 @@ int main(void)
     try_watch_runs();
     try_filters();
     situation_name = "bench cases";
-    try_fault();
+    try_fault(0x00, 0x01, 0x02, 0x04);
+    try_fault(0x02, 0x03, 0x00, 0x06);
     try_events();
     try_received_frame();
     try_frame_to_send();

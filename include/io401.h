@@ -8,7 +8,7 @@
  * 8 analogue outputs, four process data messages each way, a service data server, and a watch of the
  * heartbeats of up to four nodes. Link with libio401.a, whose functions are proved (crates/io401).
  *
- * Memory: a device has 1,112 bytes; the archive has 12,230 of code and constants, no data of its own,
+ * Memory: a device has 1,112 bytes; the archive has 12,240 of code and constants, no data of its own,
  * and allocates nothing. Stack of a call in bytes, from C through this header, as bench/stack.c
  * measures it with gcc 12.2 -O2: create 8, read 224, write 384, write_value 400, sample 168,
  * command 64, raise 64, clear 48, drive 8, receive 528, transmit 224, request 480, heartbeat 8,
@@ -278,7 +278,8 @@ static inline uint32_t io401_command(io401_device *device, uint8_t code, uint8_t
 
 /*
  * A cause of fault has appeared: communication loss where `loss` is true, else internal failure.
- * Never refused. Outputs go to their error values when fault begins.
+ * Never refused. When fault begins, an output whose error mode is 1 goes to its error value; a line drives it inverted
+ * where its polarity is 1.
  */
 static inline uint32_t io401_raise(io401_device *device, bool loss)
 {

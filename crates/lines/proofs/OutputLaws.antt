@@ -21,7 +21,7 @@ use Rattle.windows.specs.Promises.{Lined, written, masked, row_set, RowOf, Joins
 use Rattle.lines.specs.Promises.{Written, Moved, Driven, driven_at}
 use Rattle.profile.proofs.BoolLaws.{both}
 use Rattle.windows.proofs.WindowLaws.{window_bit, window_small}
-use Rattle.windows.proofs.RowLaws.{every, none, every_line, no_line}
+use Rattle.windows.proofs.RowLaws.{every, every_line}
 use Rattle.lines.proofs.ColumnLaws.{input_of_lem, output_of_lem}
 
 -- ---- writes
@@ -188,16 +188,16 @@ module _ (words : List ℕ) {out : List ℕ} (mask source polarity : Row) (o : L
   driven_set = output_of_lem out i (λ a. driven_at words mask source polarity a i) (λ a ha. o.lines a i ha h)
 
 module _ {before after : Bool} {words out : List ℕ} where
-  pub fault_begins : before ≡ false → after ≡ true → {mode value : Row} → RowOf words 8 mode → RowOf words 9 value
-      → Lined out (driven_at words mode value none) → Moved before after words out
+  pub fault_begins : before ≡ false → after ≡ true → {mode value polarity : Row} → RowOf words 8 mode → RowOf words 9 value
+      → RowOf words 7 polarity → Lined out (driven_at words mode value polarity) → Moved before after words out
   unfolding output_at move_output_line
-  fault_begins b a {mode} {value} hm hv o =
+  fault_begins b a {mode} {value} {polarity} hm hv hp o =
       rw (b, a)
       (record {
-        inputs = inputs_kept words mode value none o;
+        inputs = inputs_kept words mode value polarity o;
         outputs = λ i h.
-            driven_set words mode value none o i h
-            ∙ ap (λ (d : Bool). with_driven d (output_at words i)) (rw (no_line i, hm.at i h, hv.at i h));
+            driven_set words mode value polarity o i h
+            ∙ ap (λ (d : Bool). with_driven d (output_at words i)) (rw (hm.at i h, hv.at i h, hp.at i h));
       })
 
   pub fault_ends : before ≡ true → after ≡ false → {kept polarity : Row} → RowOf words 6 kept → RowOf words 7 polarity

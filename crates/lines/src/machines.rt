@@ -138,7 +138,7 @@ fn settle(words: &mut Words, new: Row, samples: u8)
     count_on(words, counts);
 }
 
-// Fault begins: the error value, polarity not applied, is driven where error mode is 1. Fault ends: all outputs are driven again.
+// Fault begins: the error value, inverted where polarity is 1, is driven where error mode is 1. Fault ends: all outputs are driven again.
 #[tactic(auto, using(crate::proofs::OutputLaws::unmoved, crate::proofs::OutputLaws::fault_begins, crate::proofs::OutputLaws::fault_ends))]
 pub fn move_outputs(words: &mut Words, before: bool, after: bool)
     ensures { Moved before after words.old words.new }
@@ -147,7 +147,8 @@ pub fn move_outputs(words: &mut Words, before: bool, after: bool)
         (false, true) => {
             let mode = row(words, ERROR_MODE);
             let value = row(words, ERROR_VALUE);
-            drive_row(words, mode, value, Row::NONE);
+            let polarity = row(words, OUTPUT_POLARITY);
+            drive_row(words, mode, value, polarity);
         }
         (true, false) => {
             let kept = row(words, OUTPUT);

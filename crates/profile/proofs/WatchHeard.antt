@@ -10,8 +10,7 @@ use Rattle.profile.specs.WatchEntries.{Watch, waiting, watch_at, watches}
 use Rattle.profile.specs.Watch.{expires, is_due, take_heartbeat}
 use Rattle.profile.specs.Calls.{raise, pass}
 use Rattle.profile.specs.Calls.{Call, direct, elapsed, heartbeat}
-use Rattle.profile.specs.Machines.{Kind, watch}
-use Rattle.profile.specs.Machines.{step}
+use Rattle.profile.specs.Machines.{Kind, watch, step}
 use Rattle.profile.specs.Heard.{Machines, fold, step_all}
 use Rattle.profile.specs.Lists.{after}
 use Rattle.profile.specs.WatchClaims.{HeardAsRaise, HeartbeatHeard}
@@ -23,7 +22,7 @@ use lib.ListN.{length, length-map}
 
 -- ---- "The machines hear an expiry as a raise"
 
-elapsed_other : (ms : Machines) (t : ℕ) (k : Kind) (i : ℕ) → (k ≡ watch → ⊥)
+pub elapsed_other : (ms : Machines) (t : ℕ) (k : Kind) (i : ℕ) → (k ≡ watch → ⊥)
     → step_all (elapsed t) ms k i ≡ cond (is_due t (ms watch 0).own) (step k i (raise Lost) (ms k i)) (ms k i)
 elapsed_other ms t k i ne = by (is_due t (ms watch 0).own)
   where

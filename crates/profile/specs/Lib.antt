@@ -28,6 +28,7 @@ pub mod Answers
 pub mod Outcome
 pub mod Lists
 pub mod Bench
+pub mod OutputClaims
 pub mod FilterLength
 pub mod ServerClaims
 pub mod WatchClaims

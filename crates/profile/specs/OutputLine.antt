@@ -1,4 +1,4 @@
--- Document 01, "Digital lines": the output machine.
+-- Document 01, "Digital lines": the output machine; document 02, Item 6: the error value under polarity.
 -- Assumes nothing.
 use Rattle.std.specs.Prelude.{Bool, true, false, cond, ◌&&◌, [], ◌∷◌, ℕ, ◌-◌, eqb, leb, get_or}
 use Rattle.profile.specs.Bits.{bit_at, flip}
@@ -68,9 +68,11 @@ write_output_line fault row b m =
       driven = m.driven;
     }))
 
+-- "A line that takes its error value when fault begins shall drive it inverted where its polarity is 1. .. The line's machine follows this
+-- rule."
 unfoldable pub move_output_line : Bool → Bool → OutputLine → OutputLine
 move_output_line before after m =
-    with_driven (fault_moves before after m.error_mode m.error_value (flip m.kept m.polarity) m.driven) m
+    with_driven (fault_moves before after m.error_mode (flip m.error_value m.polarity) (flip m.kept m.polarity) m.driven) m
 
 -- "Reading gives k.": what a read of row 6 to 10 gives
 unfoldable pub read_output_line : ℕ → OutputLine → Bool

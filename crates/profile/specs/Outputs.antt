@@ -8,8 +8,9 @@ module _ {A : Type 0} where
   abbrev pub following : Bool → A → A → A
   following fault follows d = cond fault d follows
 
-  -- "When fault begins, d becomes the error value (polarity not applied) if error mode is 1, else stays. During fault d doesn't move.
-  -- When fault ends, d follows k and polarity again.": d by fault before and after
+  -- "When fault begins, d becomes the error value (polarity not applied) if error mode is 1, else stays. During fault d doesn't move ..
+  -- When fault ends, d follows k and polarity again.": d by fault before and after. Of lines, document 02, Item 6 changes what the
+  -- parentheses say (`move_output_line`).
   abbrev pub fault_moves : Bool → Bool → Bool → A → A → A → A
   fault_moves false true mode error follows d = cond mode error d
   fault_moves true false mode error follows d = follows
