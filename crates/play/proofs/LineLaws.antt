@@ -2,7 +2,7 @@
 -- Assumes nothing.
 use Rattle.std.proofs.Common.{◌≡◌, ℕ, ◌+◌, ◌-◌, ◌<◌, ◌≤◌, Bool, true, false, cond, ◌&&◌, leb, List, [], length, take, drop, sym}
 use Rattle.std.proofs.Common.{refl, ap, ◌∙◌, subst, append-nil, arith, length-drop, length-take, drop_at, le-ltb, lt-ltb, eq-eqb}
-use Rattle.std.proofs.Common.{ne_eqb, leb-true, ◌++◌, length-append, append_assoc}
+use Rattle.std.proofs.Common.{ne_eqb, leb-true, ◌++◌, length-append}
 use native.Mathlib.Nat.{min-le_left}
 use lib.Seq.{take_all}
 use Rattle.arrayvec.specs.ArrayVec.{ArrayVec}
@@ -21,7 +21,8 @@ use Rattle.notation.specs.Meanings.Meaning.{unknown}
 use Rattle.play.specs.declared.session.Session.{Session}
 use Rattle.play.specs.Playing.{answer_for, machines_for, Line, says, expects, short_meaning, line_of, is_first, newer}
 use Rattle.play.proofs.PlayLaws.{whole}
-use Rattle.play.specs.Sessions.{counted, full, Played, PlayedWhole, Remembered, Answered}
+use Rattle.play.specs.Transcripts.{counted}
+use Rattle.play.specs.Sessions.{full, Played, PlayedWhole, Remembered, Answered}
 
 -- what was put behind the output from a place on is held without its last byte, a newline
 pub remembered : (before : Session) (from : ℕ) (out held : List ℕ) → out ≡ before.out.items → from ≤ length before.out.items
@@ -70,7 +71,6 @@ answered_call before played after m p r =
       unmet = ap (λ (s : Session). s.unmet) r ∙ q.aside.unmet;
       lines = ap (λ (s : Session). s.lines) r ∙ q.aside.lines;
       line = ap (λ (s : Session). s.line) r ∙ q.aside.line;
-      progress = ap (λ (s : Session). s.progress) r ∙ q.aside.progress;
     }
 
 -- a line that is too long, and one that is not
@@ -126,7 +126,6 @@ module _ (before : Session) (text : List ℕ) where
         unmet = rw first p.aside.unmet;
         lines = p.aside.lines;
         line = p.aside.line;
-        progress = p.aside.progress;
       }
 
   module _ (some : length before.answer.items ≡ 0 → ⊥) where
@@ -149,7 +148,6 @@ module _ (before : Session) (text : List ℕ) where
           unmet = rw (other, e) refl;
           lines = refl;
           line = refl;
-          progress = refl;
         }
 
     -- it did not come
@@ -171,7 +169,6 @@ module _ (before : Session) (text : List ℕ) where
           unmet = rw (other, e) c;
           lines = refl;
           line = refl;
-          progress = refl;
         }
 
 -- ---- the end
@@ -179,7 +176,7 @@ module _ (before : Session) (text : List ℕ) where
 -- the totals stand behind the output
 pub ended : (s : Session) (between left : List ℕ) → length s.out.items ≤ full
     → between ≡ put 8192 s.out.items (totals_text s.calls s.refused s.unknown) → left ≡ put 8192 between (judged_text s.met s.unmet)
-    → left ≡ s.out.items ++ totals_text s.calls s.refused s.unknown ++ judged_text s.met s.unmet
+    → left ≡ s.out.items ++ (totals_text s.calls s.refused s.unknown ++ judged_text s.met s.unmet)
 ended s between left h p q =
     let totals = totals_text s.calls s.refused s.unknown in
     let judged = judged_text s.met s.unmet in
@@ -187,7 +184,6 @@ ended s between left h p q =
     let whole = put_whole 8192 s.out.items (totals ++ judged)
     (omega (arith, length-append totals judged, short, judged_short s.met s.unmet, h)) in
     q ∙ ap (λ (l : List ℕ). put 8192 l judged) p ∙ put_then 8192 s.out.items totals judged ∙ whole
-    ∙ sym (append_assoc s.out.items totals judged)
 
 -- a line that is a call, or is compared
 pub ruleset lines = (answered_call, short_enough, line_expects, line_says, expected_short)

@@ -24,7 +24,8 @@ use Rattle.notation.specs.Meanings.{Meaning}
 use Rattle.notation.specs.Meanings.Meaning.{nothing, create, call}
 use Rattle.play.specs.declared.session.Session.{Session}
 use Rattle.play.specs.Playing.{answer_for, answer_line}
-use Rattle.play.specs.Sessions.{counted, full, Aside, Counted, Played, PlayedWhole}
+use Rattle.play.specs.Transcripts.{counted}
+use Rattle.play.specs.Sessions.{full, Aside, Counted, Played, PlayedWhole}
 
 -- what a call left in a buffer's elements is what the buffer holds
 pub lent_back : {A : Type 0} (held lent left shown : List A) → lent ≡ held → length left ≡ length lent
@@ -71,7 +72,7 @@ abbrev pub with_out : Session → ArrayVec ℕ → Session
 with_out s out = record s { out = out }
 
 pub same_aside : (s : Session) → Aside s s
-same_aside s = record { lines = refl; line = refl; answer = refl; met = refl; unmet = refl; progress = refl }
+same_aside s = record { lines = refl; line = refl; answer = refl; met = refl; unmet = refl }
 
 pub not_played : (s : Session) → Played s nothing s
 not_played s = record {
@@ -96,7 +97,6 @@ module _ (before : Session) (after : Session) where
     answer = a.answer;
     met = a.met;
     unmet = a.unmet;
-    progress = a.progress;
   }
 
   pub called : (c : Call) (r : Reply) (d : Device) (n : ℕ) (out : ArrayVec ℕ) → Ensured before.device c r d → n ≡ r.number

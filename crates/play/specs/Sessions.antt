@@ -1,35 +1,30 @@
--- What the methods of a session promise: the lines of a list, held byte by byte, are played, and their answers stand in the output block.
+-- What the methods of a session promise: the bytes of a list are held as lines and played, and their answers are written or wait.
 -- Assumes nothing.
-use Rattle.std.specs.Prelude.{◌≡◌, ℕ, ◌+◌, ◌%◌, ◌^◌, ◌≤◌, Bool, true, false, cond, not, List, [], ◌∷◌, ◌++◌, length, drop, ◌==◌, nat_lt}
+use Rattle.std.specs.Prelude.{◌≡◌, ℕ, ◌≤◌, Bool, true, false, not, List, [], ◌∷◌, ◌++◌, length, drop, ◌==◌, nat_lt, MatchResult, ⊤}
+use Rattle.std.specs.Io.KnownBytes.{append_known, Keeps, Appends, Consumes, IsAtEnd}
+use Rattle.std.specs.declared.option.Option.{Option}
+use Rattle.std.specs.declared.result.Result.{Result}
 use Rattle.profile.specs.Heard.{fresh_machines}
 use Rattle.profile.specs.Outcome.{Same}
 use Rattle.device.specs.declared.Device.{Device}
 use Rattle.device.specs.View.{machines_of}
+use Rattle.words.specs.Ascii.{ascii}
 use Rattle.words.specs.Buffers.{put}
+use Rattle.answers.specs.Answers.{totals_text, judged_text, newline}
 use Rattle.notation.specs.Meanings.{Meaning}
-use Rattle.play.specs.declared.session.Progress.{Progress}
-use Rattle.play.specs.declared.session.Progress.TheVariants.{Reading, Over, Failed}
+use Rattle.play.specs.declared.failure.Failure.{Failure}
+use Rattle.play.specs.declared.failure.Failure.TheVariants.{Reading, Writing}
 use Rattle.play.specs.declared.session.Session.{Session}
 use Rattle.play.specs.Playing.{answer_for, machines_for, is_call, is_refused, is_unknown, Line, without_mark, line_of, line_answer, newer}
 use Rattle.play.specs.Playing.{last_after, machines_after, counts_as_call, counts_as_refused, counts_as_unknown}
 use Rattle.play.specs.Playing.{counts_as_met, counts_as_unmet}
+use Rattle.play.specs.Transcripts.{counted, Player, first_player, texts, after_bytes, closing}
 
 -- ---- a call
-
--- one more in 64 bits, where it counts
-abbrev pub counted : Bool → ℕ → ℕ
-counted false n = n
-counted true n = (n + 1) % 2 ^ 64
 
 -- the output block has 8,192 bytes; up to this many it has room for what any line gets
 abbrev pub full : ℕ
 full = 6144
-
--- no line is read any more: the input is over, or it or the output failed
-abbrev pub is_over : Progress → Bool
-is_over Reading = false
-is_over Over = true
-is_over Failed = true
 
 -- before the first line: "A list whose first call is no create plays on `create 1`"
 pub record Started (s : Session) : Type 0 where
@@ -43,16 +38,14 @@ pub record Started (s : Session) : Type 0 where
   pub line : s.line.items ≡ []
   pub answer : s.answer.items ≡ []
   pub out : s.out.items ≡ []
-  pub progress : s.progress ≡ Reading
 
--- the line that is read, what is expected and how it ended stay
+-- the line that is read and what is expected stay
 pub record Aside (before after : Session) : Type 0 where
   pub lines : after.lines ≡ before.lines
   pub line : after.line ≡ before.line
   pub answer : after.answer ≡ before.answer
   pub met : after.met ≡ before.met
   pub unmet : after.unmet ≡ before.unmet
-  pub progress : after.progress ≡ before.progress
 
 -- a call was counted: the device and the call's number are those given
 pub record Counted (before : Session) (d : Device) (number : ℕ) (after : Session) : Type 0 where
@@ -102,27 +95,33 @@ pub record Answered (before : Session) (l : Line) (after : Session) : Type 0 whe
   pub unmet : after.unmet ≡ counted (counts_as_unmet before.answer.items l) before.unmet
   pub lines : after.lines ≡ before.lines
   pub line : after.line ≡ before.line
-  pub progress : after.progress ≡ before.progress
 
--- the output was written out, or that failed; what an answer can show stays
-pub record WrittenOut (before after : Session) : Type 0 where
-  pub out : after.out.items ≡ []
-  pub device : after.device ≡ before.device
-  pub calls : after.calls ≡ before.calls
-  pub refused : after.refused ≡ before.refused
-  pub unknown : after.unknown ≡ before.unknown
-  pub lines : after.lines ≡ before.lines
-  pub met : after.met ≡ before.met
-  pub unmet : after.unmet ≡ before.unmet
-  pub line : after.line ≡ before.line
-  pub answer : after.answer ≡ before.answer
-  -- the list goes on as before, unless the output failed
-  pub progress : (after.progress ≡ Failed → ⊥) → after.progress ≡ before.progress
+-- ---- the output
+
+-- the session with an empty output block
+abbrev pub emptied : Session → Session
+emptied s = record s { out = record { items = [] } }
+
+-- what a call that may write leads to: its promise, or the writing failed
+abbrev pub OrUnwritten : Result (Unit {0}) Failure → Type 0 → Type 0
+OrUnwritten r P = MatchResult r (λ u. P) (λ f. f ≡ Writing)
+
+-- all that waited was written, and nothing else changed
+pub record WrittenOut (written : Option (List ℕ)) (before : Session) (now : Option (List ℕ)) (after : Session) : Type 0 where
+  pub text : Appends written now before.out.items
+  pub session : after ≡ emptied before
+
+-- nothing was written, and nothing changed
+pub record LeftAlone (written : Option (List ℕ)) (before : Session) (now : Option (List ℕ)) (after : Session) : Type 0 where
+  pub text : Keeps written now
+  pub session : after ≡ before
 
 -- the output is written out where the longest answer has no room any more
-abbrev pub MadeRoom : Bool → Session → Session → Type 0
-MadeRoom true before after = after ≡ before
-MadeRoom false before after = WrittenOut before after
+abbrev pub MadeRoom : Bool → Option (List ℕ) → Session → Option (List ℕ) → Session → Type 0
+MadeRoom true = LeftAlone
+MadeRoom false = WrittenOut
+
+-- ---- a whole line
 
 -- the session with another number of lines, and another line that is held
 abbrev pub with_line : Session → ℕ → List ℕ → Session
@@ -137,33 +136,85 @@ abbrev pub held_line : Session → Line
 held_line s = line_of (without_mark (counted true s.lines) s.line.items)
 
 -- a line was begun, got what it gets, and the output was written out where it is full
-pub record LinePlayed (before : Session) (l : Line) (after : Session) : Type 0 where
+pub record LinePlayed (written : Option (List ℕ)) (before : Session) (now : Option (List ℕ)) (after : Session) : Type 0 where
   pub between : Session
-  pub answered : Answered (begun before) l between
-  pub written : MadeRoom (nat_lt (length between.out.items) full) between after
-
--- ---- a byte
-
--- "a tab" counts as a space
-abbrev pub plain_byte : ℕ → ℕ
-plain_byte byte = cond (byte == 9) 32 byte
-
--- the bytes held of a line with one more: of a line that is too long only as many as show it, the byte order mark's three among them
-abbrev pub held_more : List ℕ → ℕ → List ℕ
-held_more held byte = put 1028 held (plain_byte byte ∷ [])
-
--- one byte of a list: a newline ends the line, and any other is held
-abbrev pub Took : Bool → Session → ℕ → Session → Type 0
-Took true before byte after = LinePlayed before (held_line before) after
-Took false before byte after = after ≡ with_line before before.lines (held_more before.line.items byte)
+  pub answered : Answered (begun before) (held_line before) between
+  pub room : MadeRoom (nat_lt (length between.out.items) full) written between now after
 
 -- "the last line may lack the newline"
-abbrev pub PlayedLast : Bool → Session → Session → Type 0
-PlayedLast true before after = after ≡ before
-PlayedLast false before after = LinePlayed before (held_line before) after
+abbrev pub LastPlayed : Bool → Option (List ℕ) → Session → Option (List ℕ) → Session → Type 0
+LastPlayed true = LeftAlone
+LastPlayed false = LinePlayed
 
--- ---- the end
+-- the totals were written behind what waited, and nothing waits any more
+pub record Finished (written : Option (List ℕ)) (before : Session) (now : Option (List ℕ)) (after : Session) : Type 0 where
+  pub text : Appends written now
+      (before.out.items ++ (totals_text before.calls before.refused before.unknown ++ judged_text before.met before.unmet))
+  pub session : after ≡ emptied before
 
--- the session ended: its input is over, or it failed
-abbrev pub ended_as : Session → Progress → Session
-ended_as s progress = record s { progress = progress }
+-- ---- the bytes of a list
+
+-- a session stands where a list does
+pub record Plays (s : Session) (p : Player) : Type 0 where
+  pub machines : Same (machines_of s.device) p.machines
+  pub line : s.line.items ≡ p.line
+  pub last : s.answer.items ≡ p.last
+  pub lines : s.lines ≡ p.lines
+  pub calls : s.calls ≡ p.calls
+  pub refused : s.refused ≡ p.refused
+  pub unknown : s.unknown ≡ p.unknown
+  pub met : s.met ≡ p.met
+  pub unmet : s.unmet ≡ p.unmet
+
+-- some bytes were taken: the session stands where the list does after them, their texts are written or wait, and an answer has room
+pub record Fed (written : Option (List ℕ)) (before : Session) (bytes : List ℕ) (now : Option (List ℕ)) (after : Session) : Type 0 where
+  pub plays : (p : Player) → Plays before p → Plays after (after_bytes p bytes)
+  pub text : (p : Player) → Plays before p
+      → Appends (append_known written before.out.items) (append_known now after.out.items) (texts p bytes)
+  pub room : length after.out.items ≤ full
+
+-- the list ended: all of its end is written, behind what waited
+pub record Closed (written : Option (List ℕ)) (before : Session) (now : Option (List ℕ)) : Type 0 where
+  pub text : (p : Player) → Plays before p → Appends (append_known written before.out.items) now (closing p)
+
+-- blocks of bytes were taken, one after the other
+abbrev pub FedBlocks : Option (List ℕ) → Session → List (List ℕ) → Option (List ℕ) → Session → Type 0
+FedBlocks written before [] now after = (now ≡ written) × (after ≡ before)
+FedBlocks written before (block ∷ blocks) now after =
+    (w : Option (List ℕ)) × (s : Session) × Fed written before block w s × FedBlocks w s blocks now after
+
+-- ---- the input
+
+-- a block of a byte and more was read and all of it taken, and nothing waits any more
+pub record BlockPlayed (left written : Option (List ℕ)) (before : Session) (rest now : Option (List ℕ)) (after : Session) : Type 0 where
+  pub block : List ℕ
+  pub read : Consumes left rest block
+  pub some : 1 ≤ length block
+  pub fed : Fed written before block now after
+  pub out : after.out.items ≡ []
+
+-- the input is over, and nothing changed
+pub record InputOver (left written : Option (List ℕ)) (before : Session) (rest now : Option (List ℕ)) (after : Session) : Type 0 where
+  pub read : Consumes left rest []
+  pub end : IsAtEnd rest
+  pub unchanged : LeftAlone written before now after
+
+-- what reading a block leads to: whether there was one
+abbrev pub Turned : Bool → Option (List ℕ) → Option (List ℕ) → Session → Option (List ℕ) → Option (List ℕ) → Session → Type 0
+Turned true = BlockPlayed
+Turned false = InputOver
+
+-- what is left where there was a failure: a read that failed changed nothing, and of a write that did is known nothing
+abbrev pub TurnFailed : Failure → Option (List ℕ) → Option (List ℕ) → Session → Option (List ℕ) → Option (List ℕ) → Session → Type 0
+TurnFailed Reading left written before rest now after = Keeps left rest × LeftAlone written before now after
+TurnFailed Writing left written before rest now after = ⊤
+
+-- where the input could not be read any more, what was read before got its texts, and nothing else was written, no totals either
+abbrev pub BrokenOff : Failure → Option (List ℕ) → Option (List ℕ) → Option (List ℕ) → Option (List ℕ) → Type 0
+BrokenOff Reading left written rest now = (bytes : List ℕ) × Consumes left rest bytes × Appends written now (texts first_player bytes)
+BrokenOff Writing left written rest now = ⊤
+
+-- what a person is told where the list was not played to its end
+abbrev pub failure_text : Failure → List ℕ
+failure_text Reading = ascii "play: cannot read the list" ++ newline
+failure_text Writing = ascii "play: cannot write the answers" ++ newline
