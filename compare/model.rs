@@ -1,6 +1,5 @@
 //! Plays a list from standard input on the notation's own front end over paper.rs, and writes what
-//! `play` writes: without the words in parentheses, and after the colon of a line not understood only
-//! what is fixed.
+//! `play` writes; after the colon of a line not understood only what is fixed.
 
 // The comparisons use more of these.
 #[allow(dead_code)]
@@ -16,12 +15,13 @@ mod paper_mappings;
 mod paper_node;
 mod paper_objects;
 mod paper_server;
-#[allow(dead_code)]
 mod paper_watch;
 #[allow(dead_code)]
 mod play_expected;
 #[allow(dead_code)]
 mod play_model;
+mod words;
+mod words_entries;
 
 use std::io::{Read, Write};
 

@@ -15,7 +15,7 @@ pub struct Device {
     pub digital_outputs: [DigitalOutput; 128],
     pub analogue_inputs: [AnalogueInput; 16],
     pub analogue_outputs: [AnalogueOutput; 8],
-    receive_mappings: [Mapping; 4],
+    pub receive_mappings: [Mapping; 4],
     transmit_mappings: [Mapping; 4],
     pub watches: [Watch; 4],
 }

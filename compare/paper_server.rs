@@ -7,7 +7,7 @@ use crate::paper_node::State;
 use crate::paper_objects::object;
 
 /// What the first byte of a request asks for.
-enum Service {
+pub enum Service {
     Abort,
     Upload,
     /// Expedited; in bytes, where it tells its size.
@@ -19,7 +19,7 @@ enum Service {
 
 /// "expedited download and upload as in CiA 301": bits 5 to 7 say which; in a download bit 1 says that it is
 /// expedited, bit 0 that it tells its size, and bits 2 and 3 are then how much of the four bytes is spare.
-fn service(first: u8) -> Service {
+pub fn service(first: u8) -> Service {
     let (expedited, size_told) = (first >> 1 & 1 == 1, first & 1 == 1);
     // "Reserved bits aren't read": bit 4, bits 2 and 3 where no size is told, all five of an abort or an upload.
     match first >> 5 {
@@ -29,6 +29,11 @@ fn service(first: u8) -> Service {
         1 if expedited => Service::Download { told: None },
         _ => Service::AnythingElse,
     }
+}
+
+/// "A download that doesn't tell its size has the entry's own." Where none is, an earlier row refuses it.
+pub fn size_of_download(told: Option<usize>, index: u16, sub: u8) -> usize {
+    told.unwrap_or_else(|| object(index).map_or(0, |object| object.size(sub)))
 }
 
 /// The first byte of a reply and its last four, or the code of an abort reply.
@@ -87,9 +92,7 @@ impl Device {
 
     /// As above.
     fn download(&mut self, index: u16, sub: u8, told: Option<usize>, data: [u8; 4]) -> Done {
-        // "A download that doesn't tell its size has the entry's own." Where none is, an earlier row refuses it.
-        let size = told.unwrap_or_else(|| object(index).map_or(0, |object| object.size(sub)));
-        match self.write(index, sub, &data[..size]).number {
+        match self.write(index, sub, &data[..size_of_download(told, index, sub)]).number {
             // "spare reply bytes are 0,"
             0 => Ok((0x60, [0; 4])),
             code => Err(code),

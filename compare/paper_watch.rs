@@ -48,10 +48,15 @@ impl Watch {
         *self = Watch { value, sum: None };
     }
 
+    /// Whether the entry names this node; an unused one names none.
+    pub fn is_for(&self, node: u8) -> bool {
+        is_used(self.value) && node_of(self.value) == node
+    }
+
     /// "Watching starts with that node's first heartbeat."; "a heartbeat sets its sum to 0, and one from a
     /// node no entry names does nothing."
     pub fn heartbeat(&mut self, node: u8) {
-        if is_used(self.value) && node_of(self.value) == node {
+        if self.is_for(node) {
             self.sum = Some(0);
         }
     }

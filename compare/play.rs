@@ -25,22 +25,29 @@ mod paper_mappings;
 mod paper_node;
 mod paper_objects;
 mod paper_server;
-#[allow(dead_code)]
 mod paper_watch;
 mod play_expected;
 mod play_model;
 mod play_program;
+mod tally_words;
 mod texts;
 mod texts_back;
 mod texts_every;
+mod texts_every_remark;
 mod texts_expects;
+mod texts_remarks;
+mod texts_remarks_calls;
+mod texts_remarks_values;
 mod texts_spoil;
 mod texts_words;
+mod words;
+mod words_entries;
 
 use notation::lines_of;
 use play_expected::Expected;
 use play_model::{Player, Tally};
 use play_program::{feed_of, output_of, Feed};
+use tally_words::WordTally;
 use texts_back::answered_back;
 use texts_every::Named;
 
@@ -51,6 +58,8 @@ const MOST_BYTES_SHOWN: usize = 300;
 #[derive(Default)]
 struct Report {
     tally: Tally,
+    /// Of random lists alone.
+    words: WordTally,
     lists: u64,
     lines: usize,
     differences: u64,
@@ -75,7 +84,12 @@ fn how(text: &[u8], expected: &Expected, wrote: Option<&[u8]>) -> String {
 }
 
 /// The first difference of a list; the lines after it may have moved, so they say nothing.
-fn difference(list: &[u8], output: &[u8], player: &mut Player) -> Option<String> {
+fn difference(
+    list: &[u8],
+    output: &[u8],
+    player: &mut Player,
+    mut met: impl FnMut(&Expected),
+) -> Option<String> {
     let Some(body) = output.strip_suffix(b"\n") else {
         return Some("the output does not end with a newline".into());
     };
@@ -89,6 +103,7 @@ fn difference(list: &[u8], output: &[u8], player: &mut Player) -> Option<String>
             Some(line) if expected.is_met_by(line) => player.learn(line),
             line => return Some(how(text, &expected, line)),
         }
+        met(&expected);
     }
     let totals = player.tally.last_lines();
     let ends: Vec<&[u8]> = wrote.collect();
@@ -99,33 +114,46 @@ fn difference(list: &[u8], output: &[u8], player: &mut Player) -> Option<String>
     Some(format!("its end\n  expected {totals:?}\n  play     {ends:?}"))
 }
 
+/// A list, with the name it is blamed by.
+struct Played<'a> {
+    name: &'a str,
+    list: &'a [u8],
+    feed: Feed,
+    is_random: bool,
+}
+
 impl Report {
-    fn differ(&mut self, name: &str, list: &[u8], what: &str) {
+    fn differ(&mut self, played: &Played, what: &str) {
         self.differences += 1;
         if self.differences <= MOST_SHOWN {
-            println!("differs: list {name}, {what}");
+            println!("differs: list {}, {what}", played.name);
             // The list is kept for whoever looks for the cause; without it the name is enough.
-            let _ = std::fs::write(format!("target/compare/differs {name}.list"), list);
+            let _ = std::fs::write(format!("target/compare/differs {}.list", played.name), played.list);
         }
     }
 
     /// What the program wrote, where it is as expected.
-    fn play_list(&mut self, program: &str, name: &str, list: &[u8], feed: Feed) -> Option<Vec<u8>> {
+    fn play_list(&mut self, program: &str, played: &Played) -> Option<Vec<u8>> {
         self.lists += 1;
-        self.lines += lines_of(list).count();
+        self.lines += lines_of(played.list).count();
         let mut player = Player::new();
-        let output = match output_of(program, list, feed) {
+        let output = match output_of(program, played.list, played.feed) {
             Ok(output) => output,
             Err(what) => {
-                self.differ(name, list, &format!("the program: {what}"));
+                self.differ(played, &format!("the program: {what}"));
                 return None;
             }
         };
-        let difference = difference(list, &output, &mut player);
+        let met = |expected: &Expected| {
+            if played.is_random {
+                self.words.take(expected);
+            }
+        };
+        let difference = difference(played.list, &output, &mut player, met);
         self.tally.add(&player.tally);
         match difference {
             Some(what) => {
-                self.differ(name, list, &what);
+                self.differ(played, &what);
                 None
             }
             None => Some(output),
@@ -134,12 +162,24 @@ impl Report {
 
     /// The random list of a seed, and at times a second one that expects what it answered.
     fn play_seed(&mut self, program: &str, seed: u64) {
-        let list = texts::list_of(seed);
-        let output = self.play_list(program, &seed.to_string(), &list, feed_of(seed, list.len()));
+        let (name, list) = (seed.to_string(), texts::list_of(seed));
+        let feed = feed_of(seed, list.len());
+        let output = self.play_list(program, &Played { name: &name, list: &list, feed, is_random: true });
         if let (0, Some(output)) = (seed % 8, output) {
-            let back = answered_back(&list, &output);
-            self.play_list(program, &format!("{seed} answered back"), &back, Feed::Whole);
+            let (name, list) = (format!("{seed} answered back"), answered_back(&list, &output));
+            let back = Played { name: &name, list: &list, feed: Feed::Whole, is_random: false };
+            self.play_list(program, &back);
         }
+    }
+
+    /// How often each kind of words came, and whether every kind did.
+    fn conclude_words(&self) -> bool {
+        print!("{}", self.words);
+        let complaints = self.words.complaints();
+        for complaint in &complaints {
+            println!("play-run: words {complaint}");
+        }
+        complaints.is_empty()
     }
 
     /// Whether no list differed, said in one line.
@@ -171,12 +211,15 @@ fn main() {
         report.play_seed(&program, seed);
         seed += 1;
     }
+    let (name, list) = (format!("{first} of remarks"), texts::list_of_remarks(first));
+    report.play_list(&program, &Played { name: &name, list: &list, feed: Feed::Whole, is_random: true });
     let everything = texts_every::lists_of_everything();
     for Named { name, list } in &everything {
         // A byte order mark may come in parts.
         let feed = if list.len() < 64 { Feed::Pieces { about: 1, seed: first } } else { Feed::Whole };
-        report.play_list(&program, name, list, feed);
+        report.play_list(&program, &Played { name, list, feed, is_random: false });
     }
     let seeds = format!("seeds {first} to {} and {} of everything", seed - 1, everything.len());
-    std::process::exit(i32::from(!report.conclude(&seeds)));
+    let every_kind = report.conclude_words();
+    std::process::exit(i32::from(!report.conclude(&seeds) || !every_kind));
 }

@@ -4,7 +4,8 @@
 use crate::calls::Machine;
 use crate::notation::{answer_words, understand, Asked, Line};
 use crate::paper::Device;
-use crate::play_expected::{words_after, Expected, Words};
+use crate::play_expected::{Expected, Words};
+use crate::words::words_after;
 
 #[derive(Clone, Copy, Default)]
 pub struct Tally {
@@ -57,7 +58,7 @@ impl Last {
 }
 
 pub struct Player {
-    device: Device,
+    pub device: Device,
     last: Option<Last>,
     pub tally: Tally,
 }
@@ -98,18 +99,20 @@ impl Player {
     }
 
     fn play(&mut self, mut asked: Asked) -> Expected {
+        let before = self.device.clone();
         let answer = asked.play(&mut self.device);
         self.tally.calls += 1;
         self.tally.refused += u64::from(answer.number != 0);
         let text = asked.answer_line(&answer).into_bytes();
         self.last = Some(Last { text: text.clone(), whole: true });
-        Expected { line: self.tally.lines, answer: text, words: words_after(&asked, &answer) }
+        let words = words_after(&before, &asked, &answer).map_or(Words::None, Words::InParentheses);
+        Expected { line: self.tally.lines, asked: Some(asked), answer: text, words }
     }
 
     fn not_understood(&mut self, what: &str, words: Words) -> Expected {
         self.tally.not_understood += 1;
         let line = self.tally.lines;
-        Expected { line, answer: format!("? line {line}: {what}").into_bytes(), words }
+        Expected { line, asked: None, answer: format!("? line {line}: {what}").into_bytes(), words }
     }
 
     /// An expecting line; whatever it gets, the next one is compared with the same answer.
@@ -125,6 +128,6 @@ impl Player {
         let line = self.tally.lines;
         let start = format!("! line {line}: expected").into_bytes();
         let answer = [&[start.as_slice()], words].concat().join(&b' ');
-        Some(Expected { line, answer, words: Words::None })
+        Some(Expected { line, asked: None, answer, words: Words::None })
     }
 }

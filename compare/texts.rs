@@ -6,10 +6,13 @@ use crate::lists::{Random, Source};
 use crate::notation::BYTE_ORDER_MARK;
 use crate::play_model::Player;
 use crate::texts_expects::{expecting_line, length_near_the_limit};
+use crate::texts_remarks::Remarks;
 use crate::texts_spoil::{spoil_a_byte, spoil_a_word};
 use crate::texts_words::{blanks, create, words_of, Word};
 
 const LINES_OF_A_LONG_LIST: usize = 100_000;
+/// So many that every kind of words comes some times.
+const LINES_OF_REMARKS: usize = 20_000;
 /// A byte order mark, two, parts of one, and one that is not at the very start.
 const STARTS: [&[u8]; 9] = [
     BYTE_ORDER_MARK,
@@ -26,6 +29,9 @@ const STARTS: [&[u8]; 9] = [
 pub struct Texts {
     random: Random,
     source: Source,
+    remarks: Remarks,
+    /// Calls that aim at the words in parentheses, in percent of all.
+    remarked: usize,
     /// In percent of the lines that hold a call.
     spoiled: usize,
     /// Expecting lines, in percent of all.
@@ -43,11 +49,30 @@ pub fn list_of(seed: u64) -> Vec<u8> {
     let some_hundred = 100 + random.below(400);
     let lines = if seed % 1000 == 0 { LINES_OF_A_LONG_LIST } else { some_hundred };
     let expecting = random.pick(&[0, 5, 30, 60]);
-    let source = Source::new(seed);
-    Texts { random, source, spoiled, expecting, player: Player::new(), played: 0 }.list(lines)
+    let remarked = random.pick(&[10, 30, 60]);
+    Texts { remarked, spoiled, expecting, ..Texts::of_calls(random, seed) }.list(lines)
+}
+
+/// A list of calls alone, of which most aim at the words in parentheses.
+pub fn list_of_remarks(seed: u64) -> Vec<u8> {
+    let random = Random::new(seed ^ 0x72_656D_6172_6B73);
+    Texts { remarked: 85, ..Texts::of_calls(random, seed) }.list(LINES_OF_REMARKS)
 }
 
 impl Texts {
+    fn of_calls(random: Random, seed: u64) -> Texts {
+        Texts {
+            random,
+            source: Source::new(seed),
+            remarks: Remarks::none(),
+            remarked: 0,
+            spoiled: 0,
+            expecting: 0,
+            player: Player::new(),
+            played: 0,
+        }
+    }
+
     fn list(&mut self, lines: usize) -> Vec<u8> {
         let mut list = Vec::new();
         if self.random.chance(25) {
@@ -120,6 +145,10 @@ impl Texts {
             let any = self.random.next() as u8;
             let number = self.random.pick(&[self.source.number(), any & 127, any, 0, 127, 128]);
             return create(number, &mut self.random);
+        }
+        if self.random.chance(self.remarked) {
+            let call = self.remarks.call(&self.player.device, &mut self.random);
+            return words_of(&call, &mut self.random);
         }
         let mut call = self.source.call();
         if let Call::Command { node, .. } = &mut call {

@@ -18,14 +18,14 @@ pub fn answered_back(list: &[u8], output: &[u8]) -> Vec<u8> {
         let answer = wrote.next().unwrap_or_default();
         player.learn(answer);
         match expected.words {
-            // The answer to an expecting line is none that can be expected.
-            Words::None => {}
+            _ if expected.asked.is_some() => back.push([b"> ", answer].concat()),
             Words::WhatWasExpected(_) => {
                 // The line has another number in the second list.
                 let start = format!("> ? line {}: ", back.len()).into_bytes();
                 back.push([&start, &answer[expected.answer.len()..]].concat());
             }
-            _ => back.push([b"> ", answer].concat()),
+            // The answer to an expecting line is none that can be expected.
+            _ => {}
         }
     }
     back.join(&b'\n')

@@ -2,6 +2,7 @@
 
 use crate::lists_objects::objects;
 use crate::notation::BYTE_ORDER_MARK;
+use crate::texts_every_remark::lists_of_every_remark;
 
 /// A list with the name it is blamed by.
 pub struct Named {
@@ -9,7 +10,7 @@ pub struct Named {
     pub list: Vec<u8>,
 }
 
-fn named(name: &str, list: Vec<u8>) -> Named {
+pub fn named(name: &str, list: Vec<u8>) -> Named {
     Named { name: name.into(), list }
 }
 
@@ -48,6 +49,7 @@ pub fn lists_of_everything() -> Vec<Named> {
         named("every pair of bytes after the largest time", every_pair(b"elapsed 42949672", b"")),
         named("every pair of bytes before a time", every_pair(b"elapsed", b"5")),
     ];
+    lists.extend(lists_of_every_remark());
     lists.extend(every_start());
     lists
 }

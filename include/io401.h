@@ -6,7 +6,8 @@
  *
  * A CiA 401 input/output device: 128 digital inputs, 128 digital outputs, 16 analogue inputs and
  * 8 analogue outputs, four process data messages each way, a service data server, and a watch of the
- * heartbeats of up to four nodes. Link with libio401.a, whose functions are proved (crates/io401).
+ * heartbeats of up to four nodes. Link with libio401.a, which `rt lib` in
+ * crates/io401 writes and whose functions are proved.
  *
  * Memory: a device has 1,112 bytes; the archive has 12,240 of code and constants, no data of its own,
  * and allocates nothing. Stack of a call in bytes, from C through this header, as bench/stack.c
@@ -228,7 +229,8 @@ static inline io401_read_answer io401_read(io401_device *device, uint16_t index,
 /*
  * Writes an entry: `length` bytes, the least significant first. The length must be the entry's
  * size. Refusals are IO401_ABORT_.., the first that applies in the order listed above; the last four
- * depend on what the device holds: two of a mapping's entries, one of its count, one of an entry of 1016.
+ * are two of a mapping's entries, one of its count and one of an entry of 1016, and all of these but
+ * IO401_ABORT_NOT_MAPPABLE depend on what the device holds.
  */
 static inline uint32_t io401_write(io401_device *device, uint16_t index, uint8_t sub, const uint8_t *bytes,
                                    size_t length)

@@ -3,7 +3,8 @@
 use mathlib.Core.Path.{◌≡◌, refl, sym, ap, subst, ◌∙◌}
 use mathlib.Core.List.{List, [], ◌∷◌, ◌++◌, append_assoc}
 use Prim.Native.Nat.{ℕ, ◌-◌, ◌*◌, ◌/◌, ◌%◌, ◌^◌, ◌≤◌, ◌<◌}
-use native.Mathlib.Nat.{mul-le-mul_left}
+use native.Mathlib.Nat.{mul-le-mul_left, min-le_left}
+use lib.ListN.{length, take, length-take}
 use native.Mathlib.Omega.{arith}
 use Rattle.std.specs.Prelude.{Result, Ok, Err}
 use Rattle.std.specs.Result.{result_unwrap_or}
@@ -14,6 +15,7 @@ use Rattle.profile.specs.Answers.{buffer_answer}
 use Rattle.profile.specs.Entries.{Entry, entry_of}
 use Rattle.profile.proofs.AnswerLaws.{nonzero}
 use Rattle.profile.proofs.EntryRanges.{InRange, in_range}
+use Rattle.profile.proofs.SizeLaws.{entry_sized}
 use mir.Syntax.{w32}
 use Rattle.std.specs.Int.{to_le_bytes}
 use Rattle.words.specs.Ascii.{ascii}
@@ -42,6 +44,17 @@ counted_is (Err r) word bytes n count p q = cc
 pub home_found : (h : Home) (index sub : ℕ) (e : Entry) → e ≡ entry_of index sub → e.home ≡ h → InRange (entry_of index sub) h
 home_found h index sub e found is =
     subst (InRange (entry_of index sub)) (ap (λ (x : Entry). x.home) (sym found) ∙ is) (in_range index sub)
+
+-- an entry that was found has at most four bytes
+pub few_bytes : (index sub : ℕ) (e : Entry) → e ≡ entry_of index sub → (payload : List ℕ) → length (take e.size payload) ≤ 4
+few_bytes index sub e found payload =
+    omega (
+      arith,
+      length-take e.size payload,
+      min-le_left e.size (length payload),
+      ap (λ (x : Entry). x.size) found,
+      (entry_sized index sub).most,
+    )
 
 -- words that were put in parentheses
 pub parentheses_put : (n : ℕ) (held words : List ℕ) → put n (put n (put n held (ascii " (")) words) (ascii ")" ++ newline)

@@ -7,14 +7,11 @@ use Prim.Native.Nat.{ℕ, zero, suc, ◌+◌, ◌-◌, ◌*◌, ◌/◌, ◌%◌
 use native.Mathlib.Nat.{pow-suc, suc-mul, div-lt_iff_lt-mul, le-max_left, le-max_right}
 use native.Mathlib.Omega.{arith}
 use lib.Dec.{eqb, ltb}
-use lib.ListN.{length, take, length-append}
+use lib.ListN.{length, length-append}
 use lib.IntN.{ℤ}
 use mir.Syntax.{w16}
 use mir.Val.{of_z}
 use borrow.Author.Tests.{ltb-true, ltb-false}
-use Rattle.profile.specs.declared.Home.{Home}
-use Rattle.profile.specs.Entries.{home_of}
-use Rattle.profile.proofs.HomeLaws.{window_holds, mapping_holds, watch_holds}
 use Rattle.words.specs.declared.Expected.{Expected}
 use Rattle.words.specs.declared.Expected.TheVariants as Ex
 use Rattle.words.specs.Ascii.{ascii}
@@ -22,9 +19,9 @@ use Rattle.words.specs.Words.{with_byte, pieces_of, without_empty, words_of}
 use Rattle.texts.specs.Tables.{Row, text_of}
 use Rattle.texts.specs.Texts.{hex_text, long_hex_text, places_of, decimal_text, bits_text, each_text, bytes_text, numbers_text, place_text}
 use Rattle.texts.specs.Texts.{words_text, places_from, places_text}
-use Rattle.answers.specs.Answers.{newline, in_parentheses, number_text, refusals, refusal_text, end_text, attributes, lines_text}
-use Rattle.answers.specs.Answers.{attribute_text, direction_text, place_in_mapping, mapping_text, watch_text, entry_text}
-use Rattle.answers.specs.Answers.{plain_line, write_line, four_bytes, read_line, sample_line, drive_line, receive_end, receive_line}
+use Rattle.answers.specs.Refusals.{refusals, refusal_text}
+use Rattle.answers.specs.Answers.{newline, in_parentheses, number_text, end_text, plain_line, sample_line, drive_line}
+use Rattle.answers.specs.Answers.{receive_end, receive_line}
 use Rattle.answers.specs.Answers.{frame_end, frame_line, expected_text, unknown_line, unmet_line, totals_text, judged_text}
 use Rattle.texts.proofs.ReadBack.{digits_length}
 
@@ -34,7 +31,7 @@ short_cond m true a b p q = p
 short_cond m false a b p q = q
 
 -- a text after another
-short_then : (m n : ℕ) (a b : List ℕ) → length a ≤ m → length b ≤ n → length (a ++ b) ≤ m + n
+pub short_then : (m n : ℕ) (a b : List ℕ) → length a ≤ m → length b ≤ n → length (a ++ b) ≤ m + n
 short_then m n a b p q = omega (arith, p, q, length-append a b)
 
 -- ---- numbers
@@ -66,6 +63,10 @@ places_most (suc f) n = at (ltb n 10) (places_most f (n / 10))
 pub decimal_short : (n : ℕ) → length (decimal_text n) ≤ 20
 unfolding decimal_text
 decimal_short n = omega (arith, digits_length 10 (places_of 19 n) n, places_most 19 n)
+
+pub decimal_three : (n : ℕ) → n ≤ 999 → length (decimal_text n) ≤ 3
+unfolding decimal_text
+decimal_three n h = omega (arith, digits_length 10 (places_of 19 n) n, places_small 19 2 n (omega (arith, h)))
 
 decimal_five : (n : ℕ) → n < 100000 → length (decimal_text n) ≤ 5
 unfolding decimal_text
@@ -117,7 +118,7 @@ places_from_short (suc k) n bits = omega (
       (places_from_short k (n + 1) (bits / 2)),
 )
 
-places_short : (bits : ℕ) → length (places_text bits) ≤ 336
+pub places_short : (bits : ℕ) → length (places_text bits) ≤ 336
 unfolding places_text
 places_short bits = omega (arith, places_from_short 16 1 bits)
 
@@ -160,7 +161,7 @@ abbrev longest : List ℕ → List Row → ℕ
 longest other [] = length other
 longest other (row ∷ rows) = max (length row.words) (longest other rows)
 
-table_short : (other : List ℕ) (rows : List Row) (n : ℕ) → length (text_of other rows n) ≤ longest other rows
+pub table_short : (other : List ℕ) (rows : List Row) (n : ℕ) → length (text_of other rows n) ≤ longest other rows
 table_short other [] n = omega arith
 table_short other (row ∷ rows) n = short_cond (max (length row.words) (longest other rows)) (eqb row.number n) row.words
     (text_of other rows n) (le-max_left _ _)
@@ -192,46 +193,6 @@ frame_end_short n active =
     (in_parentheses (ascii "frame buffer not 8 bytes"))
     (short_cond 28 active newline (in_parentheses (ascii "node not operational")) (omega arith) (omega arith)) (omega arith)
 
-attribute_short : (row : ℕ) → length (attribute_text row) ≤ 18
-unfolding attribute_text attributes
-attribute_short row = table_short (ascii "output filter mask") attributes row
-
-lines_short : (from to : ℕ) → length (lines_text from to) ≤ 52
-unfolding lines_text
-lines_short from to =
-    short_cond 52 (eqb from to) (ascii ", line " ++ decimal_text from)
-    (ascii ", lines " ++ decimal_text from ++ ascii " to " ++ decimal_text to)
-    (omega (arith, decimal_short from))
-    (simp length-append (omega (arith, decimal_short from, decimal_short to)))
-
-direction_short : (m : ℕ) → length (direction_text m) ≤ 8
-unfolding direction_text
-direction_short m = short_cond 8 (ltb m 4) (ascii "receive") (ascii "transmit") (omega arith) (omega arith)
-
-place_in_mapping_short : (sub : ℕ) → length (place_in_mapping sub) ≤ 28
-unfolding place_in_mapping
-place_in_mapping_short sub = short_cond 28 (eqb sub 0) (ascii ", count") (ascii ", entry " ++ decimal_text sub) (omega arith)
-    (omega (arith, decimal_short sub))
-
-mapping_short : (m sub : ℕ) → length (mapping_text m sub) ≤ 65
-unfolding mapping_text
-mapping_short m sub = simp length-append (omega (arith, direction_short m, decimal_short (m % 4 + 1), place_in_mapping_short sub))
-
-watch_short : (sub : ℕ) → length (watch_text sub) ≤ 33
-unfolding watch_text
-watch_short sub = simp length-append (omega (arith, decimal_short sub))
-
-pub entry_short : (h : Home) → length (entry_text h) ≤ 74
-entry_short h =
-    let Short : List ℕ → Type 0 = λ text. length text ≤ 74 in
-    watch_holds Short _ _
-    (mapping_holds Short _ _
-    (window_holds Short _ newline (omega arith)
-    (λ row width sub. parentheses_short 70 (attribute_text row ++ lines_text (width * (sub - 1) + 1) (width * sub))
-    (simp length-append (omega (arith, attribute_short row, lines_short (width * (sub - 1) + 1) (width * sub))))) h)
-    (λ m sub. parentheses_short 70 (mapping_text m sub) (omega (arith, mapping_short m sub))) h)
-    (λ n. parentheses_short 70 (watch_text (n + 1)) (omega (arith, watch_short (n + 1)))) h
-
 expected_short : (e : Expected) → length (expected_text e) ≤ 47
 expected_short Ex.Call = omega arith
 expected_short Ex.Byte = omega arith
@@ -252,24 +213,6 @@ expected_short Ex.Milliseconds = omega arith
 pub plain_short : (n : ℕ) → length (plain_line n) ≤ 1024
 unfolding plain_line
 plain_short n = simp length-append (omega (arith, number_short n, end_short n))
-
-pub write_short : (n index sub : ℕ) → length (write_line n index sub) ≤ 1024
-unfolding write_line
-write_short n index sub = short_cond 1024 (eqb n 0) (ascii "0" ++ entry_text (home_of index sub)) (plain_line n)
-    (omega (arith, entry_short (home_of index sub))) (plain_short n)
-
-take_short : (size : ℕ) (l : List ℕ) → length (take size l) ≤ length l
-take_short zero l = omega arith
-take_short (suc n) [] = omega arith
-take_short (suc n) (x ∷ l) = omega (arith, take_short n l)
-
-pub read_short : (n value size index sub : ℕ) → length (read_line n value size index sub) ≤ 1024
-unfolding read_line
-read_short n value size index sub =
-    short_cond 1024 (eqb n 0) (ascii "0 =" ++ bytes_text (take size (four_bytes value)) ++ entry_text (home_of index sub)) (plain_line n)
-    (simp length-append (omega
-    (arith, bytes_short (take size (four_bytes value)), take_short size (four_bytes value), entry_short (home_of index sub))))
-    (plain_short n)
 
 pub sample_short : (n : ℕ) (events : List ℕ) (channels : ℕ) → length events ≤ 64 → length (sample_line n events channels) ≤ 1024
 unfolding sample_line

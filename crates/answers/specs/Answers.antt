@@ -1,14 +1,15 @@
 -- Answer lines, to the letter: the call's number, what it answers, and in parentheses words that help a person.
 -- Assumes nothing.
-use Rattle.std.specs.Prelude.{Bool, cond, ◌&&◌, List, [], ◌∷◌, ◌++◌, ℕ, ◌+◌, ◌-◌, ◌*◌, ◌/◌, ◌%◌, ltb, eqb, take, ℤ}
-use Rattle.profile.specs.declared.Home.{Home}
-use Rattle.profile.specs.Entries.{home_of, at_window, at_mapping, at_watch}
+use Rattle.std.specs.Prelude.{Bool, not, cond, ◌&&◌, List, [], ◌∷◌, ◌++◌, ℕ, ◌/◌, ◌%◌, ltb, eqb, take, ℤ}
 use Rattle.words.specs.declared.Expected.{Expected}
 use Rattle.words.specs.declared.Expected.TheVariants as Ex
 use Rattle.words.specs.Ascii.{ascii}
 use Rattle.words.specs.Words.{words_of}
-use Rattle.texts.specs.Tables.{Row, ◌is◌, text_of}
 use Rattle.texts.specs.Texts.{long_hex_text, decimal_text, bytes_text, numbers_text, words_text, places_text}
+use Rattle.answers.specs.declared.remarks.Before.{Before}
+use Rattle.answers.specs.EntryWords.{entry_text}
+use Rattle.answers.specs.Refusals.{refusal_text, access_refusal_text}
+use Rattle.answers.specs.Remarks.{written_text}
 
 abbrev pub newline : List ℕ
 newline = 10 ∷ []
@@ -21,95 +22,22 @@ in_parentheses words = ascii " (" ++ words ++ ascii ")" ++ newline
 unfoldable pub number_text : ℕ → List ℕ
 number_text n = cond (ltb n 10) (decimal_text n) (long_hex_text n)
 
--- "for a refusal what it means": the numbers of the papers, and the abort codes
-unfoldable pub refusals : List Row
-refusals =
-    1 is "node number out of range"
-    ∷ 2 is "no such command"
-    ∷ 3 is "not 16 digital bytes"
-    ∷ 4 is "not 16 analogue numbers"
-    ∷ 5 is "event buffer not 16 bytes"
-    ∷ 6 is "not 16 bytes and 8 numbers"
-    ∷ 0x08000022 is "node stopped"
-    ∷ 0x06020000 is "no such object"
-    ∷ 0x06090011 is "no such sub-index"
-    ∷ 0x06010002 is "read only"
-    ∷ 0x06070012 is "data too long"
-    ∷ 0x06070013 is "data too short"
-    ∷ 0x06090030 is "value not allowed"
-    ∷ 0x06090031 is "value too high"
-    ∷ 0x06090032 is "value too low"
-    ∷ 0x06010000 is "count is not 0"
-    ∷ 0x06040041 is "entry cannot be mapped"
-    ∷ 0x06040042 is "more than 8 entries or 64 bits"
-    ∷ 0x06040043 is "node watched by another entry"
-    ∷ 0x05040001 is "not an expedited transfer"
-    ∷ []
-
-unfoldable pub refusal_text : ℕ → List ℕ
-refusal_text n = text_of (ascii "refused") refusals n
-
 -- the end of a line: nothing more where the call is accepted
 unfoldable pub end_text : ℕ → List ℕ
 end_text n = cond (eqb n 0) newline (in_parentheses (refusal_text n))
-
--- the attributes of the digital lines, by their rows; the last row is `output filter mask`
-unfoldable pub attributes : List Row
-attributes =
-    0 is "input"
-    ∷ 1 is "input polarity"
-    ∷ 2 is "input filter"
-    ∷ 3 is "any change"
-    ∷ 4 is "low-to-high"
-    ∷ 5 is "high-to-low"
-    ∷ 6 is "output"
-    ∷ 7 is "output polarity"
-    ∷ 8 is "error mode"
-    ∷ 9 is "error value"
-    ∷ []
-
-unfoldable pub attribute_text : ℕ → List ℕ
-attribute_text row = text_of (ascii "output filter mask") attributes row
-
--- `, line 7` or `, lines 1 to 16`
-unfoldable pub lines_text : ℕ → ℕ → List ℕ
-lines_text from to =
-    cond (eqb from to) (ascii ", line " ++ decimal_text from)
-    (ascii ", lines " ++ decimal_text from ++ ascii " to " ++ decimal_text to)
-
--- of the eight mappings the first four receive: 0 is `receive` and 4 is `transmit`
-unfoldable pub direction_text : ℕ → List ℕ
-direction_text m = cond (ltb m 4) (ascii "receive") (ascii "transmit")
-
--- `, count` or `, entry 3`
-unfoldable pub place_in_mapping : ℕ → List ℕ
-place_in_mapping sub = cond (eqb sub 0) (ascii ", count") (ascii ", entry " ++ decimal_text sub)
-
--- `receive mapping 1, entry 3`
-unfoldable pub mapping_text : ℕ → ℕ → List ℕ
-mapping_text m sub = direction_text m ++ ascii " mapping " ++ decimal_text (m % 4 + 1) ++ place_in_mapping sub
-
--- an entry of the heartbeat watch: `watch, entry 1`
-unfoldable pub watch_text : ℕ → List ℕ
-watch_text sub = ascii "watch, entry " ++ decimal_text sub
-
--- "for a digital read or write the attribute and the lines it is a window on, as `0 (output, lines 1 to 16)`"; for a mapping or the watch
--- which entry it is
-abbrev pub entry_text : Home → List ℕ
-entry_text h =
-    at_watch
-    (at_mapping
-    (at_window newline (λ row width sub. in_parentheses (attribute_text row ++ lines_text (width * (sub - 1) + 1) (width * sub))) h)
-    (λ m sub. in_parentheses (mapping_text m sub)) h)
-    (λ n. in_parentheses (watch_text (n + 1))) h
 
 -- the line of a call that answers its number alone
 unfoldable pub plain_line : ℕ → List ℕ
 plain_line n = number_text n ++ end_text n
 
--- an accepted access's line ends with what the entry is a window on
-unfoldable pub write_line : ℕ → ℕ → ℕ → List ℕ
-write_line n index sub = cond (eqb n 0) (ascii "0" ++ entry_text (home_of index sub)) (plain_line n)
+-- a read or a write that is refused
+unfoldable pub refused_line : ℕ → ℕ → ℕ → List ℕ
+refused_line n index sub = number_text n ++ in_parentheses (access_refusal_text n index sub)
+
+-- a write of a value, by what stood before it
+unfoldable pub write_line : ℕ → ℕ → ℕ → ℕ → Before → List ℕ
+write_line n value index sub b =
+    cond (eqb n 0) (ascii "0" ++ in_parentheses (written_text index sub value b)) (refused_line n index sub)
 
 -- the four bytes of 32 bits, the least significant first
 abbrev pub four_bytes : ℕ → List ℕ
@@ -118,7 +46,13 @@ four_bytes v = (v % 256) ∷ (v / 256 % 256) ∷ (v / 65536 % 256) ∷ (v / 1677
 -- "accepted read: `=` and the entry's bytes, two upper-case digits each"
 unfoldable pub read_line : ℕ → ℕ → ℕ → ℕ → ℕ → List ℕ
 read_line n value size index sub =
-    cond (eqb n 0) (ascii "0 =" ++ bytes_text (take size (four_bytes value)) ++ entry_text (home_of index sub)) (plain_line n)
+    cond (eqb n 0) (ascii "0 =" ++ bytes_text (take size (four_bytes value)) ++ in_parentheses (entry_text index sub value))
+    (refused_line n index sub)
+
+-- a command, for this node or another
+unfoldable pub command_line : ℕ → Bool → List ℕ
+command_line n addressed =
+    cond (eqb n 0 && not addressed) (ascii "0" ++ in_parentheses (ascii "for another node, nothing done")) (plain_line n)
 
 -- "`events`, the event buffer's bytes as the call left them, `/`, and the numbers of the channels with an event, rising"
 unfoldable pub sample_line : ℕ → List ℕ → ℕ → List ℕ

@@ -2,28 +2,31 @@
 #![tactic(auto, using(words::proofs::BufferLaws::puts))]
 
 ghost use Rattle.std.specs.Prelude.{◌≡◌, ◌++◌};
-ghost use Rattle.profile.specs.Answers.{read_answer, sample_answer, buffer_answer};
+ghost use Rattle.profile.specs.Answers.{sample_answer, buffer_answer};
 ghost use Rattle.profile.specs.Numbers.{number_answered};
 ghost use Rattle.words.specs.Ascii.{ascii};
 ghost use Rattle.words.specs.Buffers.{put};
 ghost use Rattle.texts.specs.Texts.{bytes_text, decimal_text};
-ghost use Rattle.answers.specs.Answers.{newline, number_text, end_text, plain_line, write_line, read_line, sample_line, drive_line};
+ghost use Rattle.answers.specs.Answers.{newline, number_text, end_text, plain_line, command_line, sample_line, drive_line};
 ghost use Rattle.answers.specs.Answers.{receive_end, receive_line, frame_end, counted_text, frame_line};
 ghost use Rattle.answers.specs.Answers.{unknown_line, unmet_line, totals_text, judged_text};
 
-use crate::entries::end_access;
 use crate::tables::{meaning, wanted};
-use profile::ReadValue;
 use profile::refusals::Refusal;
 use texts::text::{put_bytes, put_decimal, put_each_word, put_long_hex, put_numbers, put_places};
 use words::Expected;
 use words::buffers::Buffer;
-use words::items::first_items;
 
-// Which entry was read or written, in the words that end the line.
+// The answer lines of a read and of a write.
+pub mod accesses;
+// What an entry is, in words.
 pub mod entries;
 // The answer lines of a heartbeat and of an elapsed call.
 pub mod heartbeats;
+// What the refusal of a read or a write means.
+pub mod refusals;
+// What an accepted write did less than its writer may think.
+pub mod remarks;
 // The tables of words.
 pub mod tables;
 
@@ -57,32 +60,14 @@ pub fn put_plain<B: Buffer<u8>>(out: &mut B, answer: Result<(), Refusal>)
     end(out, &answer);
 }
 
-// An accepted read, by its value's `size` lowest bytes; a refused one answers its number alone.
-#[tactic(auto, using(crate::proofs::AnswerLaws::reads), unfolding(crate::specs::Answers::read_line))]
-pub fn put_read<B: Buffer<u8>>(out: &mut B, answer: Result<ReadValue, Refusal>, index: u16, sub: u8)
-    ensures { B.held out.new ≡ put B.most (B.held out.old)
-        (read_line (read_answer answer).number (read_answer answer).value (read_answer answer).size index sub) }
+// A command for this node or for another.
+#[tactic(auto, using(profile::proofs::AnswerLaws::nonzero), unfolding(crate::specs::Answers::command_line))]
+pub fn put_command<B: Buffer<u8>>(out: &mut B, answer: Result<(), Refusal>, addressed: bool)
+    ensures { B.held out.new ≡ put B.most (B.held out.old) (command_line (number_answered answer) addressed) }
 {
-    match answer {
-        Ok(read) => {
-            out.put_all(b"0 =");
-            put_bytes(out, first_items(&read.value.to_le_bytes(), read.size));
-            end_access(out, index, sub);
-        }
-        Err(refusal) => put_plain(out, Err(refusal)),
-    }
-}
-
-#[tactic(auto, using(words::proofs::BufferLaws::puts), unfolding(crate::specs::Answers::write_line))]
-pub fn put_write<B: Buffer<u8>>(out: &mut B, answer: Result<(), Refusal>, index: u16, sub: u8)
-    ensures { B.held out.new ≡ put B.most (B.held out.old) (write_line (number_answered answer) index sub) }
-{
-    match answer {
-        Ok(()) => {
-            out.put(b'0');
-            end_access(out, index, sub);
-        }
-        Err(refusal) => put_plain(out, Err(refusal)),
+    match (answer, addressed) {
+        (Ok(()), false) => out.put_all(b"0 (for another node, nothing done)\n"),
+        _ => put_plain(out, answer),
     }
 }
 

@@ -1,12 +1,14 @@
 // Words for a number or for what was expected.
 ghost use Rattle.std.specs.Prelude.{◌≡◌};
-ghost use Rattle.answers.specs.Answers.{refusal_text, attribute_text, expected_text};
+ghost use Rattle.answers.specs.Answers.{expected_text};
+ghost use Rattle.answers.specs.EntryWords.{attribute_text, name_text};
+ghost use Rattle.answers.specs.Refusals.{refusal_text};
 
 use dictionary::refusals::NO_REQUEST;
 use words::Expected;
 
 // An attribute of the digital lines.
-#[tactic(auto, unfolding(crate::specs::Answers::attributes, crate::specs::Answers::attribute_text))]
+#[tactic(auto, unfolding(crate::specs::EntryWords::attributes, crate::specs::EntryWords::attribute_text))]
 pub fn attribute(row: usize) -> &'static [u8]
     ensures { result.now ≡ attribute_text row }
 {
@@ -25,8 +27,32 @@ pub fn attribute(row: usize) -> &'static [u8]
     }
 }
 
+// An entry of the device or of a channel, by its index.
+#[tactic(auto, unfolding(crate::specs::EntryWords::names, crate::specs::EntryWords::name_text))]
+pub fn name(index: u16) -> &'static [u8]
+    ensures { result.now ≡ name_text index }
+{
+    match index {
+        0x1001 => b"error register",
+        0x1029 => b"behaviour on communication loss",
+        0x2003 => b"filter length",
+        0x6005 => b"digital event enable",
+        0x6401 => b"input",
+        0x6411 => b"output",
+        0x6421 => b"event selection",
+        0x6423 => b"analogue event enable",
+        0x6424 => b"upper limit",
+        0x6425 => b"lower limit",
+        0x6426 => b"delta",
+        0x6427 => b"negative delta",
+        0x6428 => b"positive delta",
+        0x6443 => b"error mode",
+        _ => b"error value",
+    }
+}
+
 // What a refusal means.
-#[tactic(auto, unfolding(crate::specs::Answers::refusals, crate::specs::Answers::refusal_text))]
+#[tactic(auto, unfolding(crate::specs::Refusals::refusals, crate::specs::Refusals::refusal_text))]
 pub fn meaning(number: u32) -> &'static [u8]
     ensures { result.now ≡ refusal_text number }
 {

@@ -8,6 +8,8 @@ use store::Store;
 pub mod frames;
 // The eight calls of document 01 as methods.
 pub mod methods;
+// What the player's remarks on writes and commands ask of a device.
+pub mod remarks;
 // request as a method.
 pub mod requests;
 // heartbeat and elapsed as methods, and what the player's remarks ask of the watch.

@@ -40,7 +40,7 @@ pub fn read(store: &mut Store, index: u16, sub: u8) -> Result<ReadValue, Refusal
 
 // The value that a read of an entry answers.
 #[tactic(auto, unfolding(profile::specs::Replies::read_value))]
-fn value_at(store: &Store, home: Home) -> u32
+pub fn value_at(store: &Store, home: Home) -> u32
     requires { Readable home }
     ensures { result ≡ read_value (machines_of store.now) home }
 {

@@ -6,7 +6,7 @@ ghost use Rattle.play.specs.Sessions.{Played};
 use crate::session::Session;
 use answers::{put_frame, put_receive};
 use arrayvec::ArrayVec;
-use frame_answers::put_reply;
+use frame_answers::{entry_asked, put_reply};
 use profile::Message;
 
 impl Session {
@@ -36,8 +36,10 @@ impl Session {
         ensures { Played self.old (call (Doc.request frame.now reply.items)) self.new }
     {
         let stopped = self.device.is_stopped();
+        let (index, sub) = entry_asked(frame);
+        let before = self.before_write(index, sub);
         let got = self.device.request(frame, &mut reply);
-        put_reply(&mut self.out, got.answer, &reply, stopped);
+        put_reply(&mut self.out, got.answer, frame, &reply, stopped, before);
         self.count(got);
     }
 }

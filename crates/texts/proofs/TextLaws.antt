@@ -1,12 +1,12 @@
 -- Numbers and lists as text.
 -- Assumes nothing.
 use mathlib.Core.Path.{◌≡◌, refl, sym, ap, subst, ◌∙◌}
-use mathlib.Core.Bool.{Bool, true, false, cond}
+use mathlib.Core.Bool.{Bool, true, false, cond, ◌||◌}
 use mathlib.Core.List.{List, [], ◌∷◌, ◌++◌, append-nil, append_assoc}
 use Prim.Native.Nat.{ℕ, zero, suc, ◌+◌, ◌-◌, ◌*◌, ◌/◌, ◌%◌, ◌^◌, ◌≤◌, ◌<◌}
 use native.Mathlib.Nat.{pow-suc, one-le-pow, mul-le-mul_left, le-div_iff_mul-le, div-lt_iff_lt-mul}
 use native.Mathlib.Omega.{arith}
-use lib.Dec.{ltb, leb}
+use lib.Dec.{ltb, leb, eqb}
 use lib.IntN.{ℤ, pos, negsuc}
 use mir.Syntax.{w16, w32}
 use mir.Val.{SFits, of_z}
@@ -20,7 +20,7 @@ use Rattle.io.specs.Digits.{last_digits, IsDigitCount}
 use Rattle.words.specs.Words.{first_word, after_word, words_of, is_blank}
 use Rattle.words.proofs.SplitLaws.{words_more, words_none, after_shorter}
 use Rattle.texts.specs.Texts.{digits_of, places_of, hex_text, long_hex_text, decimal_text, bits_text, each_text, words_text}
-use Rattle.texts.specs.Texts.{place_text, places_from, places_text}
+use Rattle.texts.specs.Texts.{place_text, places_from, places_text, run_text, runs_from, runs_text}
 use Rattle.words.specs.Buffers.{put}
 use Rattle.words.proofs.BufferLaws.{put_none, put_then}
 
@@ -138,4 +138,32 @@ placing_more {most} {bits} {n} {rest} {a} {b} {c} h u v =
       put = v ∙ ap (λ (l : List ℕ). put most l (place_text n rest)) u.put ∙ put_then most a u.text (place_text n rest);
       left = append_assoc u.text (place_text n rest) (places_from (17 - (n + 1)) (n + 1) (rest / 2))
           ∙ ap (λ k. u.text ++ places_from k n rest) (sym e) ∙ u.left;
+    }
+
+-- ---- runs
+
+-- text that was put, and what is left of the runs
+pub record Runs (most from bits : ℕ) (held : List ℕ) (n rest : ℕ) (some before : Bool) (after : List ℕ) : Type 0 where
+  pub text : List ℕ
+  pub put : after ≡ put most held text
+  pub left : text ++ runs_from (from + 32 - n) n some before rest ≡ runs_text from bits
+
+pub running_none : (most from bits : ℕ) (b : List ℕ) → Runs most from bits b from bits false false b
+unfolding runs_text
+running_none most from bits b =
+    let all : from + 32 - from ≡ 32 = omega arith in
+    record { text = []; put = sym (put_none most b); left = ap (λ k. runs_from k from false false bits) all }
+
+pub running_more : {most from bits n rest : ℕ} {some before : Bool} {a b c : List ℕ} → n < from + 32
+    → Runs most from bits a n rest some before b → c ≡ put most b (run_text n some before rest)
+    → Runs most from bits a (n + 1) (rest / 2) (some || eqb (rest % 2) 1) (eqb (rest % 2) 1) c
+running_more {most} {from} {bits} {n} {rest} {some} {before} {a} {b} {c} h u v =
+    let here = run_text n some before rest in
+    let k = from + 32 - (n + 1) in
+    let later = runs_from k (n + 1) (some || eqb (rest % 2) 1) (eqb (rest % 2) 1) (rest / 2) in
+    let e : from + 32 - n ≡ suc k = omega arith in
+    record {
+      text = u.text ++ here;
+      put = v ∙ ap (λ (l : List ℕ). put most l here) u.put ∙ put_then most a u.text here;
+      left = append_assoc u.text here later ∙ ap (λ j. u.text ++ runs_from j n some before rest) (sym e) ∙ u.left;
     }

@@ -1,8 +1,9 @@
 -- Numbers, bytes and words as text.
 -- Assumes nothing.
-use Rattle.std.specs.Prelude.{cond, List, [], ◌∷◌, ◌++◌, ℕ, zero, suc, ◌+◌, ◌-◌, ◌/◌, ◌%◌, ltb, eqb, ℤ}
+use Rattle.std.specs.Prelude.{Bool, false, cond, ◌||◌, List, [], ◌∷◌, ◌++◌, ℕ, zero, suc, ◌+◌, ◌-◌, ◌/◌, ◌%◌, ltb, eqb, ℤ}
 use Rattle.std.specs.Int.{w16}
 use Rattle.std.proofs.Common.{of_z}
+use Rattle.words.specs.Ascii.{ascii}
 
 -- a digit below 16, in upper case
 abbrev pub glyph_of : ℕ → ℕ
@@ -30,9 +31,13 @@ places_of (suc k) n = cond (ltb n 10) 1 (suc (places_of k (n / 10)))
 unfoldable pub decimal_text : ℕ → List ℕ
 decimal_text n = digits_of 10 (places_of 19 n) n
 
--- a number of 16 bits in two's complement, with `-` where it is below 0
+-- a number in two's complement, with `-` where it is below 0; `half` is the first that stands for one below 0
+abbrev pub complement_text : ℕ → ℕ → List ℕ
+complement_text half n = cond (ltb n half) (decimal_text n) (45 ∷ decimal_text (half + half - n))
+
+-- the same of 16 bits
 unfoldable pub bits_text : ℕ → List ℕ
-bits_text n = cond (ltb n 32768) (decimal_text n) (45 ∷ decimal_text (65536 - n))
+bits_text n = complement_text 32768 n
 
 -- the text of each element, one after the other
 abbrev pub each_text : {A : Type 0} → (A → List ℕ) → List A → List ℕ
@@ -63,3 +68,21 @@ places_from (suc k) n bits = place_text n bits ++ places_from k (n + 1) (bits / 
 -- the places of the bits that are 1, of 16 bits, the lowest at place 1
 unfoldable pub places_text : ℕ → List ℕ
 places_text bits = places_from 16 1 bits
+
+-- the lowest bit, at place n, in a text of runs: `5` begins one, behind `, ` where another stands before it; ` to 8` ends one of several
+-- places
+unfoldable pub run_text : ℕ → Bool → Bool → ℕ → List ℕ
+run_text n some before bits =
+    cond (eqb (bits % 2) 1)
+    (cond before (cond (eqb (bits / 2 % 2) 1) [] (ascii " to " ++ decimal_text n))
+    (cond some (ascii ", ") [] ++ decimal_text n)) []
+
+-- the runs of the bits that are 1, of k bits from the place n on, where some run stands before them, and the bit before them is 1
+abbrev pub runs_from : ℕ → ℕ → Bool → Bool → ℕ → List ℕ
+runs_from zero n some before bits = []
+runs_from (suc k) n some before bits =
+    run_text n some before bits ++ runs_from k (n + 1) (some || eqb (bits % 2) 1) (eqb (bits % 2) 1) (bits / 2)
+
+-- the places of the bits that are 1 by runs, of 32 bits, the lowest at place n: `2, 5 to 8, 12`
+unfoldable pub runs_text : ℕ → ℕ → List ℕ
+runs_text n bits = runs_from 32 n false false bits

@@ -1,12 +1,12 @@
 // Numbers, bytes and words put as text behind what a buffer holds. What has no room is left out.
 // None of it goes by Display: each promise names every byte, and what `fmt` writes no proof can use.
-ghost use Rattle.std.specs.Prelude.{◌≡◌, List, [], ◌∷◌, ℕ, ◌<◌};
+ghost use Rattle.std.specs.Prelude.{◌≡◌, List, [], ◌∷◌, ℕ, ◌^◌, ◌≤◌, ◌<◌};
 ghost use Rattle.std.specs.Int.{w16};
 ghost use Rattle.std.proofs.Common.{of_z};
 ghost use Rattle.words.specs.Buffers.{put};
 ghost use Rattle.texts.specs.Texts.{glyph_of, hex_text, long_hex_text, decimal_text, bits_text, bytes_text, numbers_text};
 ghost use Rattle.words.specs.Words.{words_of};
-ghost use Rattle.texts.specs.Texts.{each_text, words_text, place_text, places_text};
+ghost use Rattle.texts.specs.Texts.{each_text, words_text, place_text, places_text, complement_text, run_text, runs_text};
 
 use words::buffers::Buffer;
 use words::split::{after_word, first_word, is_blank};
@@ -60,6 +60,20 @@ pub fn put_signed<B: Buffer<u8>>(out: &mut B, number: i16)
         out.put(b'-');
     }
     put_decimal(out, u64::from(number.unsigned_abs()));
+}
+
+// A number in two's complement, by the first that stands for one below 0.
+#[tactic(auto, using(words::proofs::BufferLaws::puts))]
+pub fn put_complement<B: Buffer<u8>>(out: &mut B, number: u32, half: u64)
+    requires { half ≤ 2 ^ 32 }
+    ensures { B.held out.new ≡ put B.most (B.held out.old) (complement_text half number) }
+{
+    let number = u64::from(number);
+    if number < half {
+        return put_decimal(out, number);
+    }
+    out.put(b'-');
+    put_decimal(out, (half + half).saturating_sub(number));
 }
 
 // What has a text of its own.
@@ -143,6 +157,37 @@ pub fn put_places<B: Buffer<u8>>(out: &mut B, bits: u16)
     let mut rest = bits;
     for n in 1..17 {
         put_place(out, n, rest);
+        rest /= 2;
+    }
+}
+
+// The lowest bit, at place n, in a text of runs.
+#[tactic(auto, using(words::proofs::BufferLaws::puts), unfolding(crate::specs::Texts::run_text))]
+fn put_run<B: Buffer<u8>>(out: &mut B, n: u64, some: bool, before: bool, bits: u32)
+    ensures { B.held out.new ≡ put B.most (B.held out.old) (run_text n some before bits) }
+{
+    match (bits % 2 == 1, before, bits / 2 % 2 == 1) {
+        (false, _, _) | (true, true, true) => return,
+        (true, true, false) => out.put_all(b" to "),
+        (true, false, _) if some => out.put_all(b", "),
+        (true, false, _) => {}
+    }
+    put_decimal(out, n);
+}
+
+// The places of the bits that are 1 by runs, the lowest at place n.
+#[tactic(auto, using(crate::proofs::TextLaws::running_none, crate::proofs::TextLaws::running_more))]
+pub fn put_runs<B: Buffer<u8>>(out: &mut B, n: u32, bits: u32)
+    ensures { B.held out.new ≡ put B.most (B.held out.old) (runs_text n bits) }
+{
+    let mut rest = bits;
+    let mut some = false;
+    let mut before = false;
+    let first = u64::from(n);
+    for place in first..first + 32 {
+        put_run(out, place, some, before, rest);
+        before = rest % 2 == 1;
+        some |= before;
         rest /= 2;
     }
 }

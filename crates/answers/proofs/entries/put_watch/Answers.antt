@@ -1,7 +1,7 @@
 -- `entries::put_watch` meets its contract.
 -- Assumes nothing.
 use Rattle.words.proofs.BufferLaws.{put_then}
-use Rattle.answers.specs.Answers.{watch_text}
+use Rattle.answers.specs.EntryWords.{watch_text}
 use Rattle.answers.proofs.entries.put_watch.Goals as goal
 
 pub returns : goal.returns
