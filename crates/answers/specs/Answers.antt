@@ -34,7 +34,7 @@ plain_line n = number_text n ++ end_text n
 unfoldable pub refused_line : ℕ → ℕ → ℕ → List ℕ
 refused_line n index sub = number_text n ++ in_parentheses (access_refusal_text n index sub)
 
--- a write of a value, by what stood before it
+-- a write of a value, by the device before it
 unfoldable pub write_line : ℕ → ℕ → ℕ → ℕ → Before → List ℕ
 write_line n value index sub b =
     cond (eqb n 0) (ascii "0" ++ in_parentheses (written_text index sub value b)) (refused_line n index sub)

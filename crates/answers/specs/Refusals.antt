@@ -3,12 +3,12 @@
 use Rattle.std.specs.Prelude.{cond, ◌||◌, List, [], ◌∷◌, ◌++◌, ℕ, ◌/◌, ◌%◌, ltb, eqb}
 use Rattle.profile.specs.Entries.{table, width_of, place, window, Row, objects, entry_of}
 use Rattle.words.specs.Ascii.{ascii}
-use Rattle.texts.specs.Tables as table
+use Rattle.texts.specs.Tables as words
 use Rattle.texts.specs.Tables.{◌is◌, text_of}
 use Rattle.texts.specs.Texts.{decimal_text}
 
 -- "for a refusal what it means": the numbers of the papers, and the abort codes
-unfoldable pub refusals : List table.Row
+unfoldable pub refusals : List words.Row
 refusals =
     1 is "node number out of range"
     ∷ 2 is "no such command"
@@ -37,11 +37,12 @@ refusal_text n = text_of (ascii "refused") refusals n
 
 -- ---- a refused size or sub-index of a read or a write
 
--- the last sub-index of an object
+-- the last sub-index of an object, by its index: of a row of objects, 0 where none has it
 abbrev pub last_in : List Row → ℕ → ℕ
 last_in [] index = 0
 last_in (r ∷ rs) index = cond (eqb index r.index) r.object.last (last_in rs index)
 
+-- by the place of its index among the 44 of the table of digital lines, or past it
 abbrev pub last_at : ℕ → ℕ → ℕ
 last_at p index = cond (ltb p 44) (window (p / 4) (width_of (p % 4)) 0).last (last_in (objects 0) index)
 

@@ -35,7 +35,8 @@ done_end frame reply b =
     cond (asks_upload frame) (in_parentheses (entry_text (index_in reply) (sub_in reply) (little_endian (data_in 4 reply))))
     (in_parentheses (written_text (index_in reply) (sub_in reply) (value_in (index_in reply) (sub_in reply) (drop 4 frame)) b))
 
--- a reply has eight bytes: it aborts, or its entry is named as for a plain read or write
+-- a reply has eight bytes, and so has its request: it aborts, or its entry is named as for a plain read or write. (No accepted request has
+-- another length.)
 unfoldable pub replied_end : List ℕ → List ℕ → Before → List ℕ
 replied_end frame reply b =
     cond (eqb (length frame) 8 && eqb (length reply) 8)

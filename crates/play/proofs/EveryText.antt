@@ -10,7 +10,7 @@ use Rattle.std.specs.declared.option.Option.{Option}
 use Rattle.answers.specs.Answers.{totals_text, judged_text}
 use Rattle.play.specs.declared.failure.Failure.{Failure}
 use Rattle.play.specs.declared.session.Session.{Session}
-use Rattle.play.specs.Transcripts.{Player, first_player, ended_text, after_line, texts, after_bytes, end_text, closing, transcript}
+use Rattle.play.specs.Transcripts.{Player, first_player, ended_text, after_line, texts, after_bytes, totals_of, closing, transcript}
 use Rattle.play.specs.Sessions.{full, Started, OrUnwritten, Finished, LastPlayed, Plays, Fed, Closed, FedBlocks}
 use Rattle.play.proofs.OutputLaws.{or_weaker, alone_plays, alone_text}
 use Rattle.play.proofs.FedLaws.{fed_none, fed_then, line_plays, line_text}
@@ -42,23 +42,9 @@ waits_none (Some x) waits e = sym (append-nil x) ∙ ap (λ (l : List ℕ). x ++
 
 -- ---- the beginning and the end
 
-starts : (s : Session) → Started s → Plays s first_player
-starts s b =
-    record {
-      machines = b.machines;
-      line = b.line;
-      last = b.answer;
-      lines = b.lines;
-      calls = b.calls;
-      refused = b.refused;
-      unknown = b.unknown;
-      met = b.met;
-      unmet = b.unmet;
-    }
-
 -- the totals are those of where the list stands
 finished : (v now : Option (List ℕ)) (t end : Session) → Finished v t now end → (p : Player) → Plays t p
-    → Appends (append_known v t.out.items) now (end_text p)
+    → Appends (append_known v t.out.items) now (totals_of p)
 finished v now t end f p q =
     subst (Appends (append_known v t.out.items) now)
     (λ i. totals_text (q.calls i) (q.refused i) (q.unknown i) ++ judged_text (q.met i) (q.unmet i))
@@ -67,12 +53,12 @@ finished v now t end f p q =
 -- the last line and the totals
 module _ (w : Option (List ℕ)) (s : Session) (v : Option (List ℕ)) (t : Session) (now : Option (List ℕ)) (end : Session) where
   ends : (b : Bool) → LastPlayed b w s v t → Finished v t now end → (p : Player) → Plays s p
-      → Appends (append_known w s.out.items) now (cond b (end_text p) (ended_text p ++ end_text (after_line p)))
+      → Appends (append_known w s.out.items) now (cond b (totals_of p) (ended_text p ++ totals_of (after_line p)))
   ends true o f p q =
-      kept_then (append_known w s.out.items) (append_known v t.out.items) now (end_text p) (alone_text w s v t o)
+      kept_then (append_known w s.out.items) (append_known v t.out.items) now (totals_of p) (alone_text w s v t o)
       (finished v now t end f p (alone_plays w s v t o p q))
   ends false l f p q =
-      Appends-trans (append_known w s.out.items) (append_known v t.out.items) now (ended_text p) (end_text (after_line p))
+      Appends-trans (append_known w s.out.items) (append_known v t.out.items) now (ended_text p) (totals_of (after_line p))
       (line_text w s v t l p q) (finished v now t end f (after_line p) (line_plays w s v t l p q))
 
   pub closed : (r : Result (Unit {0}) Failure) → LastPlayed (eqb (length s.line.items) 0) w s v t → OrUnwritten r (Finished v t now end)
@@ -82,7 +68,7 @@ module _ (w : Option (List ℕ)) (s : Session) (v : Option (List ℕ)) (t : Sess
       record {
         text = λ p q.
             subst (λ (l : List ℕ).
-            Appends (append_known w s.out.items) now (cond (eqb (length l) 0) (end_text p) (ended_text p ++ end_text (after_line p))))
+            Appends (append_known w s.out.items) now (cond (eqb (length l) 0) (totals_of p) (ended_text p ++ totals_of (after_line p))))
             q.line (ends (eqb (length s.line.items) 0) o f p q);
       }) h
 
@@ -114,7 +100,7 @@ texts_written blocks w v s t b f e =
     let text = texts first_player (concat blocks) in
     let fed = blocks_fed blocks w v s t (omega (arith, ap length b.out)) f in
     nothing_waits w v s.out.items text b.out
-    (Appends-kept (append_known w s.out.items) (append_known v t.out.items) v text (fed.text first_player (starts s b))
+    (Appends-kept (append_known w s.out.items) (append_known v t.out.items) v text (fed.text first_player b.plays)
     (waits_none v t.out.items e))
 
 -- ---- the theorem
@@ -124,7 +110,7 @@ pub every_text : (blocks : List (List ℕ)) (w v now : Option (List ℕ)) (s t :
 every_text blocks w v now s t b f c =
     let bytes = concat blocks in
     let fed = blocks_fed blocks w v s t (omega (arith, ap length b.out)) f in
-    let stands = starts s b in
+    let stands = b.plays in
     let all = Appends-trans (append_known w s.out.items) (append_known v t.out.items) now (texts first_player bytes)
     (closing (after_bytes first_player bytes)) (fed.text first_player stands)
     (c.text (after_bytes first_player bytes) (fed.plays first_player stands)) in

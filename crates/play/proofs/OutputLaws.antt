@@ -3,7 +3,7 @@
 use Rattle.std.proofs.Common.{◌≡◌, ℕ, ◌<◌, ◌≤◌, Bool, true, false, eqb, ltb, List, [], length, sym, ap, ◌∙◌, subst, append-nil, arith}
 use Rattle.std.proofs.Common.{ltb-true, lt-ltb, le-ltb, Result, Ok, Err}
 use Rattle.std.specs.Prelude.{OnOk, IfErr}
-use Rattle.std.specs.Io.KnownBytes.{append_known, Keeps}
+use Rattle.std.specs.Io.KnownBytes.{append_known, Keeps, Consumes}
 use Rattle.std.proofs.KnownBytes.{Keeps-refl, append_known-kept, append_known-moved}
 use Rattle.std.specs.declared.option.Option.{Option}
 use Rattle.play.specs.declared.session.Session.{Session}
@@ -20,11 +20,12 @@ pub whole_weaker : {P Q : Type 0} (r : Result (Unit {0}) Failure) → (P → Q) 
 whole_weaker (Ok u) f h = f h
 whole_weaker (Err e) f h = tt
 
--- where the writing failed nothing is known
-pub unwritten_broken : (P : Type 0) (r : Result (Unit {0}) Failure) (left written rest now : Option (List ℕ)) → OrUnwritten r P
-    → IfErr r (λ f. BrokenOff f left written rest now)
-unwritten_broken P (Ok u) left written rest now h = tt
-unwritten_broken P (Err f) left written rest now h = subst (λ (x : Failure). BrokenOff x left written rest now) (sym h) tt
+-- where the writing failed, what was read is known
+pub unwritten_broken : (P : Type 0) (r : Result (Unit {0}) Failure) (left written rest now : Option (List ℕ)) (bytes : List ℕ)
+    → Consumes left rest bytes → OrUnwritten r P → IfErr r (λ f. BrokenOff f left written rest now)
+unwritten_broken P (Ok u) left written rest now bytes c h = tt
+unwritten_broken P (Err f) left written rest now bytes c h =
+    subst (λ (x : Failure). BrokenOff x left written rest now) (sym h) (bytes, c)
 
 -- where it stands does not go by the output
 plays_emptied : (s : Session) (p : Player) → Plays s p → Plays (emptied s) p

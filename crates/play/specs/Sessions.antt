@@ -1,10 +1,9 @@
 -- What the methods of a session promise: the bytes of a list are held as lines and played, and their answers are written or wait.
 -- Assumes nothing.
-use Rattle.std.specs.Prelude.{◌≡◌, ℕ, ◌≤◌, Bool, true, false, not, List, [], ◌∷◌, ◌++◌, length, drop, ◌==◌, nat_lt, MatchResult, ⊤}
+use Rattle.std.specs.Prelude.{◌≡◌, ℕ, ◌-◌, ◌^◌, ◌≤◌, Bool, true, false, not, List, [], ◌∷◌, ◌++◌, length, drop, ◌==◌, nat_lt, MatchResult}
 use Rattle.std.specs.Io.KnownBytes.{append_known, Keeps, Appends, Consumes, IsAtEnd}
 use Rattle.std.specs.declared.option.Option.{Option}
 use Rattle.std.specs.declared.result.Result.{Result}
-use Rattle.profile.specs.Heard.{fresh_machines}
 use Rattle.profile.specs.Outcome.{Same}
 use Rattle.device.specs.declared.Device.{Device}
 use Rattle.device.specs.View.{machines_of}
@@ -13,7 +12,7 @@ use Rattle.words.specs.Buffers.{put}
 use Rattle.answers.specs.Answers.{totals_text, judged_text, newline}
 use Rattle.notation.specs.Meanings.{Meaning}
 use Rattle.play.specs.declared.failure.Failure.{Failure}
-use Rattle.play.specs.declared.failure.Failure.TheVariants.{Reading, Writing}
+use Rattle.play.specs.declared.failure.Failure.TheVariants.{Reading, Writing, Endless}
 use Rattle.play.specs.declared.session.Session.{Session}
 use Rattle.play.specs.Playing.{answer_for, machines_for, is_call, is_refused, is_unknown, Line, without_mark, line_of, line_answer, newer}
 use Rattle.play.specs.Playing.{last_after, machines_after, counts_as_call, counts_as_refused, counts_as_unknown}
@@ -25,19 +24,6 @@ use Rattle.play.specs.Transcripts.{counted, Player, first_player, texts, after_b
 -- the output block has 8,192 bytes; up to this many it has room for what any line gets
 abbrev pub full : ℕ
 full = 6144
-
--- before the first line: "A list whose first call is no create plays on `create 1`"
-pub record Started (s : Session) : Type 0 where
-  pub machines : Same (machines_of s.device) (fresh_machines 1)
-  pub calls : s.calls ≡ 0
-  pub refused : s.refused ≡ 0
-  pub unknown : s.unknown ≡ 0
-  pub lines : s.lines ≡ 0
-  pub met : s.met ≡ 0
-  pub unmet : s.unmet ≡ 0
-  pub line : s.line.items ≡ []
-  pub answer : s.answer.items ≡ []
-  pub out : s.out.items ≡ []
 
 -- the line that is read and what is expected stay
 pub record Aside (before after : Session) : Type 0 where
@@ -166,6 +152,11 @@ pub record Plays (s : Session) (p : Player) : Type 0 where
   pub met : s.met ≡ p.met
   pub unmet : s.unmet ≡ p.unmet
 
+-- before the first byte, and nothing waits
+pub record Started (s : Session) : Type 0 where
+  pub plays : Plays s first_player
+  pub out : s.out.items ≡ []
+
 -- some bytes were taken: the session stands where the list does after them, their texts are written or wait, and an answer has room
 pub record Fed (written : Option (List ℕ)) (before : Session) (bytes : List ℕ) (now : Option (List ℕ)) (after : Session) : Type 0 where
   pub plays : (p : Player) → Plays before p → Plays after (after_bytes p bytes)
@@ -185,7 +176,13 @@ FedBlocks written before (block ∷ blocks) now after =
 
 -- ---- the input
 
--- a block of a byte and more was read and all of it taken, and nothing waits any more
+-- a block of a byte and more was read
+pub record BlockRead (left rest : Option (List ℕ)) : Type 0 where
+  pub block : List ℕ
+  pub read : Consumes left rest block
+  pub some : 1 ≤ length block
+
+-- all of it was taken too, and nothing waits any more
 pub record BlockPlayed (left written : Option (List ℕ)) (before : Session) (rest now : Option (List ℕ)) (after : Session) : Type 0 where
   pub block : List ℕ
   pub read : Consumes left rest block
@@ -204,17 +201,22 @@ abbrev pub Turned : Bool → Option (List ℕ) → Option (List ℕ) → Session
 Turned true = BlockPlayed
 Turned false = InputOver
 
--- what is left where there was a failure: a read that failed changed nothing, and of a write that did is known nothing
+-- what is left where there was a failure: a read that failed changed nothing; where a write did, a block had been read
 abbrev pub TurnFailed : Failure → Option (List ℕ) → Option (List ℕ) → Session → Option (List ℕ) → Option (List ℕ) → Session → Type 0
 TurnFailed Reading left written before rest now after = Keeps left rest × LeftAlone written before now after
-TurnFailed Writing left written before rest now after = ⊤
+TurnFailed Writing left written before rest now after = BlockRead left rest
+TurnFailed Endless left written before rest now after = ⊥
 
--- where the input could not be read any more, what was read before got its texts, and nothing else was written, no totals either
+-- where the input could not be read any more, or did not end, what was read got its texts, and nothing else was written, no totals
+-- either; where the output could not be written, what it holds is not known
 abbrev pub BrokenOff : Failure → Option (List ℕ) → Option (List ℕ) → Option (List ℕ) → Option (List ℕ) → Type 0
 BrokenOff Reading left written rest now = (bytes : List ℕ) × Consumes left rest bytes × Appends written now (texts first_player bytes)
-BrokenOff Writing left written rest now = ⊤
+BrokenOff Writing left written rest now = (bytes : List ℕ) × Consumes left rest bytes
+BrokenOff Endless left written rest now =
+    (bytes : List ℕ) × Consumes left rest bytes × (2 ^ 64 - 1 ≤ length bytes) × Appends written now (texts first_player bytes)
 
 -- what a person is told where the list was not played to its end
 abbrev pub failure_text : Failure → List ℕ
 failure_text Reading = ascii "play: cannot read the list" ++ newline
 failure_text Writing = ascii "play: cannot write the answers" ++ newline
+failure_text Endless = ascii "play: the list does not end" ++ newline

@@ -83,12 +83,12 @@ after_bytes p (byte ∷ bytes) = after_bytes (after_byte p byte) bytes
 -- ---- the end
 
 -- an empty line, the totals and, where some answer was expected, what came of it
-abbrev pub end_text : Player → List ℕ
-end_text p = totals_text p.calls p.refused p.unknown ++ judged_text p.met p.unmet
+abbrev pub totals_of : Player → List ℕ
+totals_of p = totals_text p.calls p.refused p.unknown ++ judged_text p.met p.unmet
 
 -- what is written at the end of the list: "the last line may lack the newline"
 abbrev pub closing : Player → List ℕ
-closing p = cond (length p.line == 0) (end_text p) (ended_text p ++ end_text (after_line p))
+closing p = cond (length p.line == 0) (totals_of p) (ended_text p ++ totals_of (after_line p))
 
 -- all that is written for a list
 abbrev pub transcript : List ℕ → List ℕ

@@ -2,11 +2,12 @@
 ghost use Rattle.std.specs.Prelude.{◌≡◌};
 ghost use Rattle.play.specs.Sessions.{failure_text};
 
-// The input could not be read, or the output could not be written.
+// The input could not be read, the output could not be written, or the input had no end in 2^64 - 1 blocks.
 #[derive(Clone, Copy, PartialEq, Eq)]
 pub enum Failure {
     Reading,
     Writing,
+    Endless,
 }
 
 impl Failure {
@@ -16,6 +17,7 @@ impl Failure {
         match self {
             Failure::Reading => b"play: cannot read the list\n",
             Failure::Writing => b"play: cannot write the answers\n",
+            Failure::Endless => b"play: the list does not end\n",
         }
     }
 }

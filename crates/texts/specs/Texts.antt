@@ -69,13 +69,18 @@ places_from (suc k) n bits = place_text n bits ++ places_from k (n + 1) (bits / 
 unfoldable pub places_text : ℕ → List ℕ
 places_text bits = places_from 16 1 bits
 
--- the lowest bit, at place n, in a text of runs: `5` begins one, behind `, ` where another stands before it; ` to 8` ends one of several
--- places
+-- a run that begins at place n: `5`, behind `, ` where another run stands before it
+abbrev pub run_begun : ℕ → Bool → List ℕ
+run_begun n some = cond some (ascii ", ") [] ++ decimal_text n
+
+-- a run of several places that reaches place n: ` to 8` where it ends there
+abbrev pub run_reached : ℕ → Bool → List ℕ
+run_reached n goes_on = cond goes_on [] (ascii " to " ++ decimal_text n)
+
+-- the lowest bit, at place n, in a text of runs: whether some run and whether a 1 stands before it
 unfoldable pub run_text : ℕ → Bool → Bool → ℕ → List ℕ
 run_text n some before bits =
-    cond (eqb (bits % 2) 1)
-    (cond before (cond (eqb (bits / 2 % 2) 1) [] (ascii " to " ++ decimal_text n))
-    (cond some (ascii ", ") [] ++ decimal_text n)) []
+    cond (eqb (bits % 2) 1) (cond before (run_reached n (eqb (bits / 2 % 2) 1)) (run_begun n some)) []
 
 -- the runs of the bits that are 1, of k bits from the place n on, where some run stands before them, and the bit before them is 1
 abbrev pub runs_from : ℕ → ℕ → Bool → Bool → ℕ → List ℕ

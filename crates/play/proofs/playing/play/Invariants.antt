@@ -3,7 +3,7 @@
 use Rattle.play.proofs.PlayedLaws.{Reached}
 use Rattle.play.proofs.playing.play.Given as goal
 
-abbrev pub invariant-loop : goal.invariant-loop
-invariant-loop g l =
+abbrev pub invariant-loop-turn : goal.invariant-loop-turn
+invariant-loop-turn g l =
     Reached (g.R.Read.remaining l.initial.reader) (g.W.Write.contents l.initial.writer) (g.R.Read.remaining l.reader)
-    (g.W.Write.contents l.writer) l.session
+    (g.W.Write.contents l.writer) l.session l.turn
