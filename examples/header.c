@@ -24,6 +24,7 @@ IO401_ASSERT(watched_twice, IO401_ABORT_NODE_TWICE == 0x06040043);
 uint32_t header_compiles(io401_device *device);
 bool header_serves(io401_device *device, const uint8_t *request, uint8_t *reply);
 bool header_watches(io401_device *device, uint8_t node, uint32_t milliseconds);
+uint32_t header_lends(io401_device *device, const uint8_t *bytes);
 
 uint32_t header_compiles(io401_device *device)
 {
@@ -38,4 +39,11 @@ bool header_serves(io401_device *device, const uint8_t *request, uint8_t *reply)
 bool header_watches(io401_device *device, uint8_t node, uint32_t milliseconds)
 {
     return io401_heartbeat(device, node) == 0 && io401_elapsed(device, milliseconds) == 0;
+}
+
+/* The archive's own functions, with a whole device as the header names it. */
+uint32_t header_lends(io401_device *device, const uint8_t *bytes)
+{
+    const uint32_t number = io401_create_arrays(IO401_ARRAYS_OF(device), 1);
+    return number != 0 ? number : io401_write_arrays(IO401_ARRAYS_OF(device), 0x6200, 1, bytes, 1);
 }

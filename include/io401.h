@@ -207,6 +207,9 @@ io401_request_answer io401_request_arrays(io401_device *device, const uint8_t *r
 uint32_t io401_heartbeat_arrays(io401_device *device, uint8_t node);
 uint32_t io401_elapsed_arrays(io401_device *device, uint32_t milliseconds);
 
+/* A whole device as the argument of a function above: a pointer to it, no copy. */
+#define IO401_ARRAYS_OF(d) (d)
+
 /*
  * A fresh device: pre-operational, no cause of fault, every object at its default. A node number
  * of 0 or above 127 is refused with IO401_BAD_NODE, and the device then has node number 127.
