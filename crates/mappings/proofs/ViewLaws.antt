@@ -124,7 +124,7 @@ emptied_all {b} {deltas} {deltas'} h z i l =
 
 -- ---- the entries in force
 
-eight_entries : (deltas : List ℕ) (m : ℕ) → length (mapping_at deltas m).entries ≡ 8
+pub eight_entries : (deltas : List ℕ) (m : ℕ) → length (mapping_at deltas m).entries ≡ 8
 eight_entries deltas m = list_from_length 8 0 (λ j. get_or deltas (place_of m (1 + j)) 0)
 
 -- at most eight are in force

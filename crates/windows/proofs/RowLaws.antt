@@ -28,7 +28,7 @@ cond_op f true p q x y = refl
 cond_op f false p q x y = refl
 
 -- an operation on words with a law at each bit has that law at each line of a row
-row_op : (op : ℕ → ℕ → ℕ) (f : Bool → Bool → Bool) → ((a b i : ℕ) → bit_at (op a b) i ≡ f (bit_at a i) (bit_at b i))
+pub row_op : (op : ℕ → ℕ → ℕ) (f : Bool → Bool → Bool) → ((a b i : ℕ) → bit_at (op a b) i ≡ f (bit_at a i) (bit_at b i))
     → (x y : Row) → Joins f x y (record { low = op x.low y.low; high = op x.high y.high })
 unfolding row_at
 row_op op f law x y =
