@@ -11,7 +11,7 @@ use Rattle.std.specs.Result.{result_unwrap_or}
 use Rattle.profile.specs.declared.refusals.Refusal.{Refusal}
 use Rattle.profile.specs.declared.Home.{Home}
 use Rattle.profile.specs.Numbers.{number_answered}
-use Rattle.profile.specs.Answers.{buffer_answer}
+use Rattle.profile.specs.Answers.{sample_answer, buffer_answer}
 use Rattle.profile.specs.Entries.{Entry, entry_of}
 use Rattle.profile.proofs.AnswerLaws.{nonzero}
 use Rattle.profile.proofs.EntryRanges.{InRange, in_range}
@@ -21,7 +21,7 @@ use Rattle.std.specs.Int.{to_le_bytes}
 use Rattle.words.specs.Ascii.{ascii}
 use Rattle.words.specs.Buffers.{put}
 use Rattle.words.proofs.BufferLaws.{put_none, put_then}
-use Rattle.answers.specs.Answers.{newline, in_parentheses, four_bytes, counted_text}
+use Rattle.answers.specs.Answers.{newline, in_parentheses, four_bytes, counted_text, sample_line}
 
 -- the lines before a window of width w end no later than the window
 pub lines_before : (w s : ℕ) → w * (s - 1) ≤ w * s
@@ -35,10 +35,21 @@ pub number_is : (a : Result ℕ Refusal) (bytes : List ℕ) → (buffer_answer a
 number_is (Ok x) bytes = refl
 number_is (Err r) bytes = refl
 
+pub count_is : (a : Result ℕ Refusal) (bytes : List ℕ) → (buffer_answer a bytes).count ≡ result_unwrap_or a 0
+count_is (Ok x) bytes = refl
+count_is (Err r) bytes = refl
+
 pub counted_is : (a : Result ℕ Refusal) (word bytes : List ℕ) (n count : ℕ) → n ≡ number_answered a → count ≡ result_unwrap_or a 0
     → counted_text (buffer_answer a bytes).number word bytes (buffer_answer a bytes).count ≡ counted_text n word bytes count
 counted_is (Ok x) word bytes n count p q = cc
 counted_is (Err r) word bytes n count p q = cc
+
+-- the line of a sample, by what it answered
+pub sample_is : (a : Result ℕ Refusal) (bytes : List ℕ)
+    → sample_line (sample_answer a bytes).number bytes (sample_answer a bytes).events
+    ≡ sample_line (number_answered a) bytes (result_unwrap_or a 0)
+sample_is (Ok x) bytes = refl
+sample_is (Err r) bytes = refl
 
 -- a window, or an entry of the watch, that was found is one of the papers
 pub home_found : (h : Home) (index sub : ℕ) (e : Entry) → e ≡ entry_of index sub → e.home ≡ h → InRange (entry_of index sub) h
@@ -69,6 +80,9 @@ pub ruleset parentheses = (put_then, parentheses_put)
 
 -- a refusal's meaning, which stands in parentheses
 pub ruleset ends = (parentheses_put, nonzero)
+
+-- the number and the count of a call that fills a buffer
+pub ruleset counts = (number_is, count_is)
 
 -- a read's bytes
 pub ruleset reads = (put_none, put_then, four_bytes_are)

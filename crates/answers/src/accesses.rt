@@ -1,7 +1,7 @@
 // The answer lines of a read and of a write.
 ghost use Rattle.std.specs.Prelude.{◌≡◌};
 ghost use Rattle.profile.specs.Answers.{read_answer};
-ghost use Rattle.profile.specs.Numbers.{number_answered, refusal_number};
+ghost use Rattle.profile.specs.Numbers.{number_answered};
 ghost use Rattle.words.specs.Buffers.{put};
 ghost use Rattle.answers.specs.Answers.{in_parentheses, refused_line, write_line, read_line};
 ghost use Rattle.answers.specs.EntryWords.{entry_text};
@@ -9,27 +9,20 @@ ghost use Rattle.answers.specs.Remarks.{written_text, value_in};
 
 use crate::entries::put_entry;
 use crate::refusals::put_access_refusal;
-use crate::remarks::{Before, put_written, value_in};
-use crate::{close, put_number};
+use crate::remarks::{Before, put_written};
+use crate::{close, number_of, numbered, put_number};
 use profile::ReadValue;
 use profile::refusals::Refusal;
-use texts::text::put_bytes;
 use words::buffers::Buffer;
-use words::items::first_items;
 
 // An accepted read, by its value's `size` lowest bytes; a refused one answers its number alone.
-#[tactic(auto, using(crate::proofs::AnswerLaws::reads), unfolding(crate::specs::Answers::read_line))]
 pub fn put_read<B: Buffer<u8>>(out: &mut B, answer: Result<ReadValue, Refusal>, index: u16, sub: u8)
     ensures { B.held out.new ≡ put B.most (B.held out.old)
         (read_line (read_answer answer).number (read_answer answer).value (read_answer answer).size index sub) }
 {
     match answer {
-        Ok(read) => {
-            out.put_all(b"0 =");
-            put_bytes(out, first_items(&read.value.to_le_bytes(), read.size));
-            end_read(out, index, sub, read.value);
-        }
-        Err(refusal) => put_refused(out, refusal, index, sub),
+        Ok(read) => numbered::put_read(out, 0, read.value, read.size, index, sub),
+        Err(refusal) => numbered::put_read(out, refusal.number(), 0, 0, index, sub),
     }
 }
 
@@ -55,16 +48,15 @@ pub fn end_write<B: Buffer<u8>>(out: &mut B, index: u16, sub: u8, value: u32, be
 
 // A read or a write that is refused.
 #[tactic(auto, using(crate::proofs::AnswerLaws::parentheses), unfolding(crate::specs::Answers::refused_line))]
-fn put_refused<B: Buffer<u8>>(out: &mut B, refusal: Refusal, index: u16, sub: u8)
-    ensures { B.held out.new ≡ put B.most (B.held out.old) (refused_line (refusal_number refusal) index sub) }
+pub(crate) fn put_refused<B: Buffer<u8>>(out: &mut B, number: u32, index: u16, sub: u8)
+    ensures { B.held out.new ≡ put B.most (B.held out.old) (refused_line number index sub) }
 {
-    put_number(out, refusal.number());
+    put_number(out, number);
     out.put_all(b" (");
-    put_access_refusal(out, refusal.number(), index, sub);
+    put_access_refusal(out, number, index, sub);
     close(out);
 }
 
-#[tactic(auto, using(words::proofs::BufferLaws::puts, profile::proofs::AnswerLaws::nonzero), unfolding(crate::specs::Answers::write_line))]
 pub fn put_write<B: Buffer<u8>>(
     out: &mut B,
     answer: Result<(), Refusal>,
@@ -76,11 +68,5 @@ pub fn put_write<B: Buffer<u8>>(
     ensures { B.held out.new ≡ put B.most (B.held out.old)
         (write_line (number_answered answer) (value_in index sub payload.now) index sub before) }
 {
-    match answer {
-        Ok(()) => {
-            out.put(b'0');
-            end_write(out, index, sub, value_in(index, sub, payload), before);
-        }
-        Err(refusal) => put_refused(out, refusal, index, sub),
-    }
+    numbered::put_write(out, number_of(&answer), index, sub, payload, before);
 }

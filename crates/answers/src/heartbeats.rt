@@ -4,17 +4,16 @@ ghost use Rattle.profile.specs.Numbers.{number_answered};
 ghost use Rattle.words.specs.Buffers.{put};
 ghost use Rattle.answers.specs.Answers.{heartbeat_end, heartbeat_line, elapsed_end, elapsed_line};
 
-use crate::put_outcome;
+use crate::{number_of, put_worded};
 use profile::refusals::Refusal;
 use words::buffers::Buffer;
 
 // A heartbeat of a node that a used entry names or not.
-#[tactic(auto, using(words::proofs::BufferLaws::puts), unfolding(crate::specs::Answers::heartbeat_line))]
+#[tactic(auto, unfolding(crate::specs::Answers::heartbeat_line))]
 pub fn put_heartbeat<B: Buffer<u8>>(out: &mut B, answer: Result<(), Refusal>, watched: bool)
     ensures { B.held out.new ≡ put B.most (B.held out.old) (heartbeat_line (number_answered answer) watched) }
 {
-    put_outcome(out, &answer);
-    out.put_all(heartbeat_end(watched));
+    put_worded(out, number_of(&answer), heartbeat_end(watched));
 }
 
 #[tactic(auto, unfolding(crate::specs::Answers::heartbeat_end))]
@@ -29,7 +28,7 @@ fn heartbeat_end(watched: bool) -> &'static [u8]
 }
 
 // An elapsed call, by which an entry expires or not, on a watch that is started or not.
-#[tactic(auto, using(words::proofs::BufferLaws::puts), unfolding(crate::specs::Answers::elapsed_line))]
+#[tactic(auto, unfolding(crate::specs::Answers::elapsed_line))]
 pub fn put_elapsed<B: Buffer<u8>>(
     out: &mut B,
     answer: Result<(), Refusal>,
@@ -38,8 +37,7 @@ pub fn put_elapsed<B: Buffer<u8>>(
 )
     ensures { B.held out.new ≡ put B.most (B.held out.old) (elapsed_line (number_answered answer) due running) }
 {
-    put_outcome(out, &answer);
-    out.put_all(elapsed_end(due, running));
+    put_worded(out, number_of(&answer), elapsed_end(due, running));
 }
 
 #[tactic(auto, unfolding(crate::specs::Answers::elapsed_end))]

@@ -6,14 +6,14 @@ ghost use Rattle.profile.specs.Answers.{sample_answer, buffer_answer};
 ghost use Rattle.profile.specs.Numbers.{number_answered};
 ghost use Rattle.words.specs.Ascii.{ascii};
 ghost use Rattle.words.specs.Buffers.{put};
-ghost use Rattle.texts.specs.Texts.{bytes_text, decimal_text};
-ghost use Rattle.answers.specs.Answers.{newline, number_text, end_text, plain_line, command_line, sample_line, drive_line};
-ghost use Rattle.answers.specs.Answers.{receive_end, receive_line, frame_end, counted_text, frame_line};
+ghost use Rattle.texts.specs.Texts.{decimal_text};
+ghost use Rattle.answers.specs.Answers.{newline, number_text, plain_line, command_line, sample_line, drive_line};
+ghost use Rattle.answers.specs.Answers.{receive_line, counted_text, frame_line};
 ghost use Rattle.answers.specs.Answers.{unknown_line, unmet_line, totals_text, judged_text};
 
-use crate::tables::{meaning, wanted};
+use crate::tables::wanted;
 use profile::refusals::Refusal;
-use texts::text::{put_bytes, put_decimal, put_each_word, put_long_hex, put_numbers, put_places};
+use texts::text::{put_decimal, put_each_word, put_long_hex};
 use words::Expected;
 use words::buffers::Buffer;
 
@@ -23,6 +23,8 @@ pub mod accesses;
 pub mod entries;
 // The answer lines of a heartbeat and of an elapsed call.
 pub mod heartbeats;
+// The answer lines by a call's number.
+pub mod numbered;
 // What the refusal of a read or a write means.
 pub mod refusals;
 // What an accepted write did less than its writer may think.
@@ -42,22 +44,28 @@ pub fn put_number<B: Buffer<u8>>(out: &mut B, number: u32)
 }
 
 // The number of a refusal, 0 where the call is accepted.
-pub(crate) fn put_outcome<B: Buffer<u8>, T: Drop>(out: &mut B, answer: &Result<T, Refusal>)
-    ensures { B.held out.new ≡ put B.most (B.held out.old) (number_text (number_answered answer.now)) }
+pub fn number_of<T: Drop>(answer: &Result<T, Refusal>) -> u32
+    ensures { result ≡ number_answered answer.now }
 {
     match answer {
-        Ok(_) => put_number(out, 0),
-        Err(refusal) => put_number(out, refusal.number()),
+        Ok(_) => 0,
+        Err(refusal) => refusal.number(),
     }
 }
 
+// A call's number, and words behind it.
+pub(crate) fn put_worded<B: Buffer<u8>>(out: &mut B, number: u32, words: &[u8])
+    ensures { B.held out.new ≡ put B.most (B.held out.old) (number_text number ++ words.now) }
+{
+    put_number(out, number);
+    out.put_all(words);
+}
+
 // A call that answers its number alone.
-#[tactic(auto, using(words::proofs::BufferLaws::puts), unfolding(crate::specs::Answers::plain_line))]
 pub fn put_plain<B: Buffer<u8>>(out: &mut B, answer: Result<(), Refusal>)
     ensures { B.held out.new ≡ put B.most (B.held out.old) (plain_line (number_answered answer)) }
 {
-    put_outcome(out, &answer);
-    end(out, &answer);
+    numbered::put_plain(out, number_of(&answer));
 }
 
 // A command for this node or for another.
@@ -71,18 +79,14 @@ pub fn put_command<B: Buffer<u8>>(out: &mut B, answer: Result<(), Refusal>, addr
     }
 }
 
-#[tactic(auto, using(words::proofs::BufferLaws::puts), unfolding(crate::specs::Answers::sample_line))]
+#[tactic(auto, using(crate::proofs::AnswerLaws::sample_is))]
 pub fn put_sample<B: Buffer<u8>>(out: &mut B, answer: Result<u16, Refusal>, events: &[u8])
     ensures { B.held out.new ≡ put B.most (B.held out.old)
         (sample_line (sample_answer answer events.now).number events.now (sample_answer answer events.now).events) }
 {
-    put_buffer(out, &answer, b" events", events);
-    out.put_all(b" /");
-    put_places(out, answer.unwrap_or(0));
-    end(out, &answer);
+    numbered::put_sample(out, number_of(&answer), events, answer.unwrap_or(0));
 }
 
-#[tactic(auto, using(words::proofs::BufferLaws::puts), unfolding(crate::specs::Answers::drive_line))]
 pub fn put_drive<B: Buffer<u8>>(
     out: &mut B,
     answer: Result<(), Refusal>,
@@ -91,14 +95,10 @@ pub fn put_drive<B: Buffer<u8>>(
 )
     ensures { B.held out.new ≡ put B.most (B.held out.old) (drive_line (number_answered answer) lines.now channels.now) }
 {
-    put_buffer(out, &answer, b" lines", lines);
-    out.put_all(b" /");
-    put_numbers(out, channels);
-    end(out, &answer);
+    numbered::put_drive(out, number_of(&answer), lines, channels);
 }
 
 // A receive, in a node that is operational or not, by a frame that is as long as its mapping or not.
-#[tactic(auto, using(words::proofs::BufferLaws::puts), unfolding(crate::specs::Answers::receive_line))]
 pub fn put_receive<B: Buffer<u8>>(
     out: &mut B,
     answer: Result<(), Refusal>,
@@ -107,22 +107,10 @@ pub fn put_receive<B: Buffer<u8>>(
 )
     ensures { B.held out.new ≡ put B.most (B.held out.old) (receive_line (number_answered answer) active long) }
 {
-    put_outcome(out, &answer);
-    out.put_all(receive_end(active, long));
+    numbered::put_receive(out, number_of(&answer), active, long);
 }
 
-#[tactic(auto, unfolding(crate::specs::Answers::receive_end))]
-fn receive_end(active: bool, long: bool) -> &'static [u8]
-    ensures { result.now ≡ receive_end active long }
-{
-    match (active, long) {
-        (false, _) => b" (node not operational, nothing written)\n",
-        (true, false) => b" (frame shorter than its mapping, nothing written)\n",
-        (true, true) => b"\n",
-    }
-}
-
-#[tactic(auto, using(words::proofs::BufferLaws::puts, crate::proofs::AnswerLaws::number_is), unfolding(crate::specs::Answers::frame_line))]
+#[tactic(auto, using(crate::proofs::AnswerLaws::counts))]
 pub fn put_frame<B: Buffer<u8>>(
     out: &mut B,
     answer: Result<usize, Refusal>,
@@ -132,39 +120,11 @@ pub fn put_frame<B: Buffer<u8>>(
     ensures { B.held out.new ≡ put B.most (B.held out.old)
         (frame_line (buffer_answer answer frame.now).number frame.now (buffer_answer answer frame.now).count active) }
 {
-    put_counted(out, answer, b" frame", frame);
-    out.put_all(frame_end(answer, active));
+    numbered::put_frame(out, number_of(&answer), frame, answer.unwrap_or(0), active);
 }
 
-// A transmit has one refusal, whose number means the event buffer elsewhere.
-#[tactic(auto, using(profile::proofs::AnswerLaws::nonzero), unfolding(crate::specs::Answers::frame_end))]
-fn frame_end(answer: Result<usize, Refusal>, active: bool) -> &'static [u8]
-    ensures { result.now ≡ frame_end (number_answered answer) active }
-{
-    match (answer, active) {
-        (Ok(_), true) => b"\n",
-        (Ok(_), false) => b" (node not operational)\n",
-        (Err(_), _) => b" (frame buffer not 8 bytes)\n",
-    }
-}
-
-// A number, a word, and a buffer as the call left it.
-fn put_buffer<B: Buffer<u8>, T: Drop>(
-    out: &mut B,
-    answer: &Result<T, Refusal>,
-    word: &[u8],
-    buffer: &[u8],
-)
-    ensures { B.held out.new ≡ put B.most (B.held out.old)
-        (number_text (number_answered answer.now) ++ word.now ++ bytes_text buffer.now) }
-{
-    put_outcome(out, answer);
-    out.put_all(word);
-    put_bytes(out, buffer);
-}
-
-// The same, and a count, which is 0 where the call is refused.
-#[tactic(auto, using(words::proofs::BufferLaws::puts, crate::proofs::AnswerLaws::counted_is))]
+// A number, a word, a buffer as the call left it, and a count, which is 0 where the call is refused.
+#[tactic(auto, using(crate::proofs::AnswerLaws::counted_is))]
 pub fn put_counted<B: Buffer<u8>>(
     out: &mut B,
     answer: Result<usize, Refusal>,
@@ -174,10 +134,7 @@ pub fn put_counted<B: Buffer<u8>>(
     ensures { B.held out.new ≡ put B.most (B.held out.old)
         (counted_text (buffer_answer answer buffer.now).number word.now buffer.now (buffer_answer answer buffer.now).count) }
 {
-    let count = answer.unwrap_or(0);
-    put_buffer(out, &answer, word, buffer);
-    out.put_all(b" / ");
-    put_decimal(out, count as u64);
+    numbered::put_counted(out, number_of(&answer), word, buffer, answer.unwrap_or(0));
 }
 
 // Words in parentheses end a line.
@@ -186,21 +143,6 @@ pub fn close<B: Buffer<u8>>(out: &mut B)
 {
     out.put(b')');
     out.put(b'\n');
-}
-
-// A refusal's meaning and the line's end.
-#[tactic(auto, using(crate::proofs::AnswerLaws::ends), unfolding(crate::specs::Answers::end_text))]
-fn end<B: Buffer<u8>, T: Drop>(out: &mut B, answer: &Result<T, Refusal>)
-    ensures { B.held out.new ≡ put B.most (B.held out.old) (end_text (number_answered answer.now)) }
-{
-    match answer {
-        Ok(_) => out.put(b'\n'),
-        Err(refusal) => {
-            out.put_all(b" (");
-            out.put_all(meaning(refusal.number()));
-            close(out);
-        }
-    }
 }
 
 // A line that is no call.
