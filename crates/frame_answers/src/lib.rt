@@ -3,18 +3,19 @@
 
 ghost use Rattle.std.specs.Prelude.{◌≡◌};
 ghost use Rattle.profile.specs.Answers.{buffer_answer};
-ghost use Rattle.profile.specs.Numbers.{refusal_number};
 ghost use Rattle.words.specs.Buffers.{put};
-ghost use Rattle.frame_answers.specs.FrameAnswers.{index_asked, sub_asked, refused_end, silent_end, abort_end, done_end, replied_end};
-ghost use Rattle.frame_answers.specs.FrameAnswers.{reply_end, reply_line};
+ghost use Rattle.frame_answers.specs.FrameAnswers.{index_asked, sub_asked, silent_end, abort_end, done_end, replied_end, reply_line};
 
 use answers::accesses::{end_read, end_write};
 use answers::refusals::put_access_refusal;
 use answers::remarks::{Before, value_in};
-use answers::{close, put_counted};
+use answers::{close, number_of};
 use profile::refusals::Refusal;
 use server_frames::requests::{aborts, asks_upload, code_in, index_in, sub_in};
 use words::buffers::Buffer;
+
+// The same line by the call's number.
+pub mod numbered;
 
 // Which entry a request names; 0:0, which is none, where it has not eight bytes.
 pub fn entry_asked(frame: &[u8]) -> (u16, u8)
@@ -27,7 +28,7 @@ pub fn entry_asked(frame: &[u8]) -> (u16, u8)
 }
 
 // A request, in a node that was stopped before it or not.
-#[tactic(auto, using(words::proofs::BufferLaws::puts), unfolding(crate::specs::FrameAnswers::reply_line))]
+#[tactic(auto, using(answers::proofs::AnswerLaws::counts))]
 pub fn put_reply<B: Buffer<u8>>(
     out: &mut B,
     answer: Result<usize, Refusal>,
@@ -39,42 +40,19 @@ pub fn put_reply<B: Buffer<u8>>(
     ensures { B.held out.new ≡ put B.most (B.held out.old)
         (reply_line (buffer_answer answer reply.now).number frame.now reply.now (buffer_answer answer reply.now).count stopped before) }
 {
-    put_counted(out, answer, b" reply", reply);
-    end_reply(out, answer, frame, reply, stopped, before);
-}
-
-#[tactic(auto, using(profile::proofs::AnswerLaws::nonzero), unfolding(crate::specs::FrameAnswers::reply_end))]
-fn end_reply<B: Buffer<u8>>(
-    out: &mut B,
-    answer: Result<usize, Refusal>,
-    frame: &[u8],
-    reply: &[u8],
-    stopped: bool,
-    before: Before,
-)
-    ensures { B.held out.new ≡ put B.most (B.held out.old)
-        (reply_end (buffer_answer answer reply.now).number frame.now reply.now (buffer_answer answer reply.now).count stopped before) }
-{
-    match answer {
-        Ok(0) => out.put_all(silent_end(stopped)),
-        Ok(_) => end_replied(out, frame, reply, before),
-        Err(refusal) => out.put_all(refused_end(refusal)),
-    }
-}
-
-// The numbers of a request's two refusals mean other things elsewhere.
-#[tactic(auto, unfolding(crate::specs::FrameAnswers::refused_end))]
-fn refused_end(refusal: Refusal) -> &'static [u8]
-    ensures { result.now ≡ refused_end (refusal_number refusal) }
-{
-    match refusal {
-        Refusal::RequestLength => b" (request not 8 bytes)\n",
-        _ => b" (reply buffer not 8 bytes)\n",
-    }
+    numbered::put_reply(
+        out,
+        number_of(&answer),
+        frame,
+        reply,
+        answer.unwrap_or(0),
+        stopped,
+        before,
+    );
 }
 
 #[tactic(auto, unfolding(crate::specs::FrameAnswers::silent_end))]
-fn silent_end(stopped: bool) -> &'static [u8]
+pub(crate) fn silent_end(stopped: bool) -> &'static [u8]
     ensures { result.now ≡ silent_end stopped }
 {
     if stopped {
@@ -86,7 +64,7 @@ fn silent_end(stopped: bool) -> &'static [u8]
 
 // A reply is read back: what its abort means, or what was read or written.
 #[tactic(auto, unfolding(crate::specs::FrameAnswers::replied_end))]
-fn end_replied<B: Buffer<u8>>(out: &mut B, frame: &[u8], reply: &[u8], before: Before)
+pub(crate) fn end_replied<B: Buffer<u8>>(out: &mut B, frame: &[u8], reply: &[u8], before: Before)
     ensures { B.held out.new ≡ put B.most (B.held out.old) (replied_end frame.now reply.now before) }
 {
     let (Some(frame), Some(reply)) = (frame.as_array::<8>(), reply.as_array::<8>()) else {
