@@ -8,6 +8,7 @@ use Rattle.notation.specs.declared.Call.TheVariants.{Nothing, Create, Read, Writ
 use Rattle.notation.specs.declared.Call.TheVariants.{Receive, Transmit, Request, Heartbeat, Elapsed}
 use Rattle.words.specs.declared.Expected.{Expected}
 use Rattle.words.specs.Words.{words_of}
+use Rattle.words.specs.Held.{held}
 use Rattle.words.specs.Items.{byte_item, items_of}
 use Rattle.notation.specs.Meanings.{Meaning, bytes_meaning, fault_meaning}
 use Rattle.notation.specs.Meanings.Meaning.{nothing, unknown, create, call}
@@ -18,15 +19,15 @@ said (Err e) = unknown e
 said (Ok Nothing) = nothing
 said (Ok (Create node)) = create node
 said (Ok (Read index sub)) = call (Doc.direct (Doc.Plain.read index sub))
-said (Ok (Write index sub bytes)) = call (Doc.direct (Doc.Plain.write index sub bytes.items))
-said (Ok (Sample digital analogue events)) = call (Doc.direct (Doc.Plain.sample digital.items analogue.items events.items))
+said (Ok (Write index sub bytes)) = call (Doc.direct (Doc.Plain.write index sub (held bytes)))
+said (Ok (Sample digital analogue events)) = call (Doc.direct (Doc.Plain.sample (held digital) (held analogue) (held events)))
 said (Ok (Command code node)) = call (Doc.direct (Doc.Plain.command code node))
 said (Ok (Raise cause)) = call (Doc.direct (Doc.Plain.raise cause))
 said (Ok (Clear cause)) = call (Doc.direct (Doc.Plain.clear cause))
-said (Ok (Drive lines channels)) = call (Doc.direct (Doc.Plain.drive lines.items channels.items))
-said (Ok (Receive message frame)) = call (Doc.receive message frame.items)
-said (Ok (Transmit message frame)) = call (Doc.transmit message frame.items)
-said (Ok (Request frame lent)) = call (Doc.request frame.items lent.items)
+said (Ok (Drive lines channels)) = call (Doc.direct (Doc.Plain.drive (held lines) (held channels)))
+said (Ok (Receive message frame)) = call (Doc.receive message (held frame))
+said (Ok (Transmit message frame)) = call (Doc.transmit message (held frame))
+said (Ok (Request frame lent)) = call (Doc.request (held frame) (held lent))
 said (Ok (Heartbeat node)) = call (Doc.direct (Doc.Plain.heartbeat node))
 said (Ok (Elapsed t)) = call (Doc.elapsed t)
 

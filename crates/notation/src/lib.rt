@@ -1,8 +1,8 @@
 // The notation of a list of calls: a line as a call.
 #![tactic(auto)]
 
-use arrayvec::ArrayVec;
 use profile::{Cause, Message};
+use words::held::Held;
 
 // Bytes up to a line's end.
 mod bytes;
@@ -18,7 +18,7 @@ mod parts;
 mod requests;
 
 // What a line says, with its data.
-#[derive(Drop)]
+#[derive(Clone, Copy)]
 pub enum Call {
     // An empty line, or a comment.
     Nothing,
@@ -27,21 +27,21 @@ pub enum Call {
     // Index, sub-index.
     Read(u16, u8),
     // Index, sub-index, bytes.
-    Write(u16, u8, ArrayVec<u8, 512>),
+    Write(u16, u8, Held<u8, 512>),
     // Digital bytes, analogue numbers, event bytes.
-    Sample(ArrayVec<u8, 64>, ArrayVec<i16, 64>, ArrayVec<u8, 64>),
+    Sample(Held<u8, 64>, Held<i16, 64>, Held<u8, 64>),
     // Code, node number.
     Command(u8, u8),
     Raise(Cause),
     Clear(Cause),
     // Bytes, numbers.
-    Drive(ArrayVec<u8, 64>, ArrayVec<i16, 64>),
+    Drive(Held<u8, 64>, Held<i16, 64>),
     // The frame's bytes.
-    Receive(Message, ArrayVec<u8, 64>),
+    Receive(Message, Held<u8, 64>),
     // The bytes of the frame as it is lent.
-    Transmit(Message, ArrayVec<u8, 64>),
+    Transmit(Message, Held<u8, 64>),
     // The request's bytes, and the bytes of the reply as it is lent.
-    Request(ArrayVec<u8, 64>, ArrayVec<u8, 64>),
+    Request(Held<u8, 64>, Held<u8, 64>),
     // Node number.
     Heartbeat(u8),
     // Milliseconds.

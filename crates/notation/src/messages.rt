@@ -8,9 +8,10 @@ ghost use Rattle.notation.specs.Meanings.{message_of, no_message, message_meanin
 use crate::Call;
 use crate::bytes::{filled, last_bytes};
 use crate::parts::end;
-use arrayvec::ArrayVec;
 use profile::Message;
 use words::Expected;
+use words::buffers::Buffer;
+use words::held::Held;
 use words::numbers::decimal;
 use words::split::{after_word, first_word, is_blank};
 
@@ -33,7 +34,7 @@ pub fn transmit(rest: &[u8]) -> Result<Call, Expected>
     }
     if first_word(frame) == b"/".as_slice() {
         end(after_word(frame))?;
-        return Ok(Call::Transmit(message, ArrayVec::new()));
+        return Ok(Call::Transmit(message, Held::empty()));
     }
     Ok(Call::Transmit(message, last_bytes(frame)?))
 }

@@ -2,6 +2,7 @@
 -- Assumes nothing.
 pub mod Ascii
 pub mod Buffers
+pub mod Held
 pub mod Words
 pub mod Numbers
 pub mod Items

@@ -9,7 +9,7 @@ use crate::numbers::{hexadecimal, signed};
 use crate::split::{after_word, first_word};
 
 // What reading a list finds: the items, and what is left of the line.
-#[derive(Drop)]
+#[derive(Clone, Copy, Drop)]
 pub struct Items<'a, B> {
     pub items: B,
     pub rest: &'a [u8],

@@ -7,6 +7,8 @@ pub mod split;
 pub mod numbers;
 // Buffers that hold items up to a number of them.
 pub mod buffers;
+// A buffer that can be copied.
+pub mod held;
 // Lists of bytes and of numbers in a line.
 pub mod items;
 // A line as an expected answer.
