@@ -56,6 +56,7 @@ const ANY: u32 = u32::MAX;
 // And of an entry of 1016, whose bits 24 to 31 are 0.
 const WATCHED: u32 = 0x00FF_FFFF;
 
+#[inline(always)]
 #[tactic(auto, unfolding(profile::specs::Entries::entry_of))]
 pub fn find(index: u16, sub: u8) -> Result<Entry, Refusal>
     ensures { found result ≡ entry_of index sub }
@@ -67,6 +68,7 @@ pub fn find(index: u16, sub: u8) -> Result<Entry, Refusal>
 }
 
 // The place of an index in the table. All of its indices are from 6000 to 63FF: any other is not looked up.
+#[inline(always)]
 fn place_of(index: u16) -> Option<usize>
     ensures { IsPlace index result }
 {
@@ -77,6 +79,7 @@ fn place_of(index: u16) -> Option<usize>
 }
 
 // The same by the key.
+#[inline(always)]
 fn keyed_place(index: u16) -> Option<usize>
     ensures { IsPlace index result }
 {
@@ -92,6 +95,7 @@ fn keyed_place(index: u16) -> Option<usize>
 }
 
 // What an object has at a sub-index: nothing above its last; its entry count at 0, unless that is its last; else the entry.
+#[inline(always)]
 fn at(sub: u8, last: u8, entry: Entry) -> Result<Entry, Refusal>
     ensures { found result
         ≡ at sub (object last entry.size entry.fixed entry.short entry.lowest entry.highest entry.home) }
@@ -113,6 +117,7 @@ fn at(sub: u8, last: u8, entry: Entry) -> Result<Entry, Refusal>
 }
 
 // Read only.
+#[inline(always)]
 fn reading(sub: u8, last: u8, size: u8, home: Home) -> Result<Entry, Refusal>
     ensures { found result ≡ at sub (reading last size home) }
 {
@@ -127,6 +132,7 @@ fn reading(sub: u8, last: u8, size: u8, home: Home) -> Result<Entry, Refusal>
     at(sub, last, entry)
 }
 
+#[inline(always)]
 fn setting(
     sub: u8,
     last: u8,
@@ -149,6 +155,7 @@ fn setting(
 }
 
 // Four bytes for the numbers of 16 bits.
+#[inline(always)]
 fn short(sub: u8, last: u8, home: Home) -> Result<Entry, Refusal>
     ensures { found result ≡ at sub (short last home) }
 {
@@ -177,6 +184,7 @@ fn of_column(column: usize) -> (usize, u32)
 }
 
 // By the row and the column of that table, every width alike; a value has as many bytes as hold its lines.
+#[inline(always)]
 fn window(row: usize, column: usize, sub: u8) -> Result<Entry, Refusal>
     requires { column < 4 }
     ensures { found result ≡ at sub (window row (width_of column) sub) }
@@ -195,6 +203,7 @@ fn window(row: usize, column: usize, sub: u8) -> Result<Entry, Refusal>
 }
 
 // A process data mapping: which of the eight. Its entry count is written.
+#[inline(always)]
 fn mapping(sub: u8, m: usize) -> Result<Entry, Refusal>
     ensures { found result ≡ at sub (mapping_object m sub) }
 {
@@ -214,6 +223,7 @@ fn mapping(sub: u8, m: usize) -> Result<Entry, Refusal>
 }
 
 // 1600 to 1603, and 1A00 to 1A03.
+#[inline(always)]
 fn mapping_object(index: u16, sub: u8) -> Result<Entry, Refusal>
     ensures { found result ≡ lookup sub (mapping_objects sub) index }
 {
@@ -225,6 +235,7 @@ fn mapping_object(index: u16, sub: u8) -> Result<Entry, Refusal>
 }
 
 // The objects outside the table of digital lines, by channel or entry from 0; sub-index 0, the entry count, names number 0 too.
+#[inline(always)]
 #[tactic(auto, unfolding(profile::specs::Entries::object_of))]
 fn object(index: u16, sub: u8) -> Result<Entry, Refusal>
     ensures { found result ≡ object_of index sub }
