@@ -9,10 +9,10 @@
  * heartbeats of up to four nodes. Link with libio401.a, which `rt lib` in
  * crates/io401 writes and whose functions are proved.
  *
- * Memory: a device has 1,112 bytes; the archive has 12,240 of code and constants, no data of its own,
+ * Memory: a device has 1,112 bytes; the archive has 13,890 of code and constants, no data of its own,
  * and allocates nothing. Stack of a call in bytes, from C through this header, as bench/stack.c
- * measures it with gcc 12.2 -O2: create 8, read 224, write 384, write_value 400, sample 168,
- * command 64, raise 64, clear 48, drive 8, receive 528, transmit 224, request 480, heartbeat 8,
+ * measures it with gcc 12.2 -O2: create 8, read 40, write 136, write_value 152, sample 168,
+ * command 64, raise 64, clear 48, drive 8, receive 168, transmit 152, request 184, heartbeat 8,
  * elapsed 48.
  * Symbols needed from outside: none, not even memcpy. The code is for x86-64-v2, a processor with
  * SSE4.2; it uses the vector registers and the 128 bytes below the stack pointer (the red zone), as
